@@ -1,0 +1,4 @@
+pub mod OpenLaws
+pub mod BeginLaws
+pub mod ActLaws
+pub mod StateLaws

@@ -1,0 +1,151 @@
+-- From the lanes that begin and step look at, one by one, to the state: the loop, the lane in use, and the call's outcome.
+-- Assumes nothing.
+use mathlib.Core.Path.{_≡_, refl, sym, ap, _∙_, subst}
+use mathlib.Core.Bool.{Bool, true, false, not, _&&_}
+use mathlib.Core.List.{List}
+use Prim.Native.Nat.{ℕ, zero, _+_, _<_, _≤_}
+use native.Mathlib.Omega.{arith}
+use lib.Dec.{ltb, leb}
+use lib.ListN.{getD, set, length}
+use lib.Seq.{set-getD, set-out}
+use borrow.Author.Tests.{lt-ltb, le-ltb, ltb-true, ltb-false}
+use Rattle.numbers.specs.Numbers.{mostProcesses, processOf, placeOf, mostMarks}
+use Rattle.refusals.specs.Orders.{pick}
+use Rattle.lanes.specs.declared.Check.{Check}
+use Rattle.lanes.specs.declared.Check.the-variants as Check
+use Rattle.lanes.specs.declared.Stage.{Stage}
+use Rattle.lanes.specs.declared.Stage.the-variants as Stage
+use Rattle.lanes.specs.declared.Op.{Op}
+use Rattle.lanes.specs.declared.Op.the-variants as Op
+use Rattle.lanes.specs.declared.Lane.{Lane}
+use Rattle.lanes.specs.declared.State.{State}
+use Rattle.lanes.specs.Ranges.{rest, laneOf, below, checkFits, stageFits, opFits, laneFits, sizesFit, stateFits}
+use Rattle.lanes.specs.Laws.{and-left, and-right, below-more, sized, lane-ok, sizes-of, lane-of}
+use Rattle.steps.specs.Memory.{Memory}
+use Rattle.grid.specs.declared.Ask.{Ask}
+use Rattle.grid.specs.declared.Acted.{Acted}
+use Rattle.grid.specs.declared.Stepped.{Stepped}
+use Rattle.grid.specs.Calls.{lengthsFit, begunOf, beginOf, verdictOf, settled, sizesOf, namedIn, namedAt, named, seenBy, Effect, effect, actOf, Outcome, outcome, stepOf, steppedAs, outcomeAs}
+use Rattle.grid.specs.Inner.{laneAt, Judged}
+
+-- how far the lanes have been looked at
+abbrev pub Passed : State → ℕ → Bool → Type 0
+Passed t i fits = fits ≡ (sizesFit (t .p) (t .m) (t .top) && below i (λ (q : ℕ). laneFits (t .p) (t .m) (laneOf t q)))
+
+and-true : (b : Bool) → (b && true) ≡ b
+and-true true = refl
+and-true false = refl
+
+and-assoc : (a b c : Bool) → ((a && b) && c) ≡ (a && (b && c))
+and-assoc true b c = refl
+and-assoc false b c = refl
+
+pub loop-start : (t : State) (fits : Bool) → fits ≡ sizesFit (t .p) (t .m) (t .top) → Passed t 0 fits
+unfolding below
+loop-start t fits e = e ∙ sym (and-true (sizesFit (t .p) (t .m) (t .top)))
+
+pub loop-next : (t : State) (i : ℕ) (fits b c : Bool) → Passed t i fits → b ≡ laneFits (t .p) (t .m) (laneOf t i) → c ≡ (fits && b)
+    → Passed t (i + 1) c
+loop-next t i fits b c h e f =
+    f ∙ rw (h, e)
+    (and-assoc (sizesFit (t .p) (t .m) (t .top)) (below i (λ (q : ℕ). laneFits (t .p) (t .m) (laneOf t q))) (laneFits (t .p) (t .m) (laneOf t i))
+    ∙ ap (λ (x : Bool). sizesFit (t .p) (t .m) (t .top) && x) (below-more i (λ (q : ℕ). laneFits (t .p) (t .m) (laneOf t q))))
+
+pub sizes-high : (t : State) (b : Bool) → b ≡ sizesFit (t .p) (t .m) (t .top) → b ≡ true → t .p ≤ mostProcesses
+sizes-high t b e h = sized (t .p) (t .m) (t .top) (sym e ∙ h) .p-high
+
+-- past the last lane in use, the state has been looked at
+pub loop-end : (t : State) (b : Bool) (end i : ℕ) (fits : Bool) → b ≡ sizesFit (t .p) (t .m) (t .top) → end ≡ pick b (t .p) 0 → i ≤ end → end ≤ i
+    → Passed t i fits → fits ≡ stateFits t
+loop-end t true end i fits e f low high h =
+    let k : i ≡ t .p = omega arith in
+    h ∙ ap (λ (x : ℕ). sizesFit (t .p) (t .m) (t .top) && below x (λ (q : ℕ). laneFits (t .p) (t .m) (laneOf t q))) k
+loop-end t false end i fits e f low high h = h ∙ rw (← e) refl
+
+-- the process that a lane in its range names is one of the grid's, or 0
+named-in : (p m : ℕ) (c : Check) → 1 ≤ p → checkFits p m c ≡ true → namedIn c < p
+named-in p m Check.Link h e = omega arith
+named-in p m (Check.Marks w) h e = ltb-true _ _ e
+named-in p m (Check.Directory w) h e = omega arith
+named-in p m (Check.Mark start w) h e = omega arith
+
+named-at : (p m : ℕ) (t : Stage) → 1 ≤ p → stageFits p m t ≡ true → namedAt t < p
+named-at p m (Stage.Store v) h e = omega arith
+named-at p m (Stage.Check c) h e = named-in p m c h e
+named-at p m (Stage.Draw b w n) h e = omega arith
+named-at p m (Stage.Enter b start w n) h e = omega arith
+named-at p m (Stage.Tombstone w n) h e = omega arith
+named-at p m (Stage.Mark w n) h e = omega arith
+named-at p m (Stage.Force w n) h e = omega arith
+named-at p m (Stage.Swap w n) h e = omega arith
+named-at p m (Stage.TakeBack n) h e = omega arith
+
+named-of : (p m steps : ℕ) (o : Op) → 1 ≤ p → opFits p m steps o ≡ true → named o < p
+named-of p m steps Op.Idle h e = omega arith
+named-of p m steps (Op.Read i c) h e = named-in p m c h (and-right (ltb (i .0) m) (checkFits p m c) e)
+named-of p m steps (Op.Reading i) h e = omega arith
+named-of p m steps (Op.Asked i c) h e = named-in p m c h (and-right (ltb (i .0) m) (checkFits p m c) e)
+named-of p m steps (Op.Write i t) h e = named-at p m t h (and-right (ltb (i .0) m) (stageFits p m t) e)
+
+-- the lane at k, which is process q's where q is one of the grid's
+module _ (s : State) (q k : ℕ) (at : k ≡ laneAt q) (l : Lane) (is : l ≡ laneOf s k) where
+  same-lanes : set (s .lanes) k l ≡ s .lanes
+  same-lanes = rw is (set-getD (s .lanes) k rest)
+
+  own-lanes : set (s .lanes) q (laneOf s q) ≡ s .lanes
+  own-lanes = set-getD (s .lanes) q rest
+
+  module _ (fine : stateFits s ≡ true) (low : q < s .p) where
+    lane-q : k ≡ q
+    lane-q = let few = sized (s .p) (s .m) (s .top) (sizes-of s fine) .p-high in at ∙ simp (lt-ltb q mostProcesses (omega arith))
+
+    is-q : l ≡ laneOf s q
+    is-q = is ∙ ap (laneOf s) lane-q
+
+  pub judged-at : (fits : Bool) → fits ≡ stateFits s → Judged fits (sizesOf s) q l
+  judged-at fits e = record {
+    sizes = λ h. sizes-of s (sym e ∙ h);
+    lane = λ h low. let fine : stateFits s ≡ true = sym e ∙ h in rw (is-q fine low) (lane-of s fine q low);
+  }
+
+  -- a call on the lane at k comes to the call on process q's lane, where it is the same; else both leave the state
+  begun-by : (a : Ask) (x : Bool) → stateFits s ≡ x → (y : Bool) → ltb q (s .p) ≡ y
+      → steppedAs s k (begunOf (stateFits s) (s .p) (s .m) (s .top) q l a) ≡ beginOf s q a
+  unfolding begunOf
+  begun-by a true h true g =
+      let low = ltb-true q (s .p) g in
+      rw (is-q h low, lane-q h low)
+  begun-by a true h false g = simp (h, g) (rw (same-lanes, own-lanes))
+  begun-by a false h y g = simp h (rw (same-lanes, own-lanes))
+
+  pub begun-is : (fits : Bool) (a : Ask) (b : Acted) → fits ≡ stateFits s → b ≡ begunOf fits (s .p) (s .m) (s .top) q l a
+      → steppedAs s k b ≡ beginOf s q a
+  begun-is fits a b e f = rw (f, e) (begun-by a (stateFits s) refl (ltb q (s .p)) refl)
+
+  module _ (j : ℕ) (other : Lane) (from : j ≡ laneAt (named (l .op))) (sees : other ≡ laneOf s j) where
+    seen-is : stateFits s ≡ true → q < s .p → other .marks ≡ seenBy s q
+    seen-is h low =
+        let size = sized (s .p) (s .m) (s .top) (sizes-of s h) in
+        let few = size .p-high in
+        let some = size .p-low in
+        let ok = lane-ok (s .p) (s .m) (laneOf s q) (lane-of s h q low) .op in
+        let small = named-of (s .p) (s .m) (laneOf s q .steps) (laneOf s q .op) some ok in
+        let here : named (l .op) ≡ named (laneOf s q .op) = ap (λ (x : Lane). named (x .op)) (is-q h low) in
+        let at′ : j ≡ named (laneOf s q .op) = from ∙ ap laneAt here ∙ simp (lt-ltb (named (laneOf s q .op)) mostProcesses (omega arith)) in
+        ap (λ (x : Lane). x .marks) (sees ∙ ap (laneOf s) at′)
+
+    step-by : (mem : Memory) (x : Bool) → stateFits s ≡ x → (y : Bool) → ltb q (s .p) ≡ y → (z : Bool) → lengthsFit (s .p) (s .m) mem ≡ z
+        → outcomeAs s k (actOf (stateFits s) (sizesOf s) q l (other .marks) mem) ≡ stepOf s q mem
+    unfolding verdictOf
+    step-by mem true h true g z i =
+        let low = ltb-true q (s .p) g in
+        rw (seen-is h low, is-q h low, lane-q h low)
+    step-by mem true h false g true i = simp (h, i, g) (rw (same-lanes, own-lanes))
+    step-by mem true h false g false i = simp (h, i) (rw (same-lanes, own-lanes))
+    step-by mem false h y g z i = simp h (rw (same-lanes, own-lanes))
+
+    pub step-is : (fits : Bool) (mem mem′ : Memory) (b : Acted) → fits ≡ stateFits s
+        → effect b mem′ ≡ actOf fits (sizesOf s) q l (other .marks) mem → outcome (steppedAs s k b) mem′ ≡ stepOf s q mem
+    step-is fits mem mem′ b e f =
+        ap (outcomeAs s k) f
+        ∙ rw e (step-by mem (stateFits s) refl (ltb q (s .p)) refl (lengthsFit (s .p) (s .m) mem) refl)

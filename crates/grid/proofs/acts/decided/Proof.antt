@@ -1,0 +1,28 @@
+-- `grid::acts::decided` meets its contract.
+-- Assumes nothing.
+use Rattle.grid.proofs.ActLaws.{outside, stays, leaves}
+use borrow.Author.Needs.{needs}
+use Rattle.grid.proofs.acts.decided.Statement.{statement}
+use Rattle.grid.proofs.acts.decided.Tie as tie
+
+enum-told : tie.Need-enum-told
+enum-told c = search needs
+
+enum-known-t : tie.Need-enum-known-t
+enum-known-t c = search needs
+
+numbers-fit-requires : tie.Need-numbers-fit-requires
+numbers-fit-requires c κs = search needs
+
+returns : tie.Need-returns
+returns c = search (outside)
+
+returns-2 : tie.Need-returns-2
+returns-2 c = search (stays)
+
+returns-3 : tie.Need-returns-3
+returns-3 c = search (leaves)
+
+pub decided-spec : {M : Type 1} → statement M
+decided-spec =
+    tie.close (tie.spec enum-told enum-known-t numbers-fit-requires returns returns-2 returns-3)

@@ -1,0 +1,93 @@
+-- `grid::begin` meets its contract.
+-- Assumes nothing.
+use mathlib.Core.Path.{refl}
+use Prim.Native.Nat.{_≤_, _-_}
+use native.Mathlib.Omega.{arith}
+use borrow.Author.Needs.{needs}
+use Rattle.grid.proofs.StateLaws.{Passed, loop-start, loop-next, loop-end, sizes-high, begun-is}
+use Rattle.grid.proofs.begin.Statement.{statement}
+use Rattle.grid.proofs.begin.Tie as tie
+
+abbrev Inv-loop : tie.InvT-loop
+Inv-loop q a t k l fits₀ end i₀ fits i = (i ≤ end) × Passed t i fits
+
+abbrev μ-loop : tie.MeasureT-loop
+μ-loop q a t k l fits₀ end i₀ fits i = end - i
+
+lane-of-requires : tie.Need-lane-of-requires Inv-loop μ-loop
+lane-of-requires c κs = search needs
+
+mul-l : tie.Need-mul-l Inv-loop μ-loop
+mul-l c = omega arith
+
+element-copy-out-l : tie.Need-element-copy-out-l Inv-loop μ-loop
+element-copy-out-l c = omega arith
+
+sizes-fit-requires : tie.Need-sizes-fit-requires Inv-loop μ-loop
+sizes-fit-requires c κs = search needs
+
+lanes-below-requires : tie.Need-lanes-below-requires Inv-loop μ-loop
+lanes-below-requires c κs = sizes-high (c .before .before .before .args .s) _ (c .sizes-fit .ensures)
+
+loop-holds : tie.Need-loop-holds Inv-loop μ-loop
+loop-holds c = (omega arith, loop-start (c .before .before .before .before .args .s) _ (c .before .sizes-fit .ensures))
+
+mul-lane-fits : tie.Need-mul-lane-fits Inv-loop μ-loop
+mul-lane-fits c = omega arith
+
+element-copy-out-lane-fits : tie.Need-element-copy-out-lane-fits Inv-loop μ-loop
+element-copy-out-lane-fits c = omega arith
+
+lane-fits-requires : tie.Need-lane-fits-requires Inv-loop μ-loop
+lane-fits-requires c κs = search needs
+
+both-requires : tie.Need-both-requires Inv-loop μ-loop
+both-requires c κs = search needs
+
+add-i : tie.Need-add-i Inv-loop μ-loop
+add-i c = omega arith
+
+loop-less : tie.Need-loop-less Inv-loop μ-loop
+loop-less c = omega arith
+
+loop-again : tie.Need-loop-again Inv-loop μ-loop
+loop-again c = (omega arith, loop-next (c .before .before .before .before .before .before .before .before .before .args .s) _ _ _ _ (c .before .before .before .before .loop .inv .1) (c .before .lane-fits .ensures) (c .both .ensures))
+
+begun-requires : tie.Need-begun-requires Inv-loop μ-loop
+begun-requires c κs = search needs
+
+mul-lane : tie.Need-mul-lane Inv-loop μ-loop
+mul-lane c = omega arith
+
+element-set-from-lane : tie.Need-element-set-from-lane Inv-loop μ-loop
+element-set-from-lane c = omega arith
+
+returns : tie.Need-returns Inv-loop μ-loop
+returns c =
+    let s = c .before .before .before .before .before .before .before .before .args .s in
+    let fine = loop-end s _ _ _ _ (c .before .before .before .before .before .sizes-fit .ensures) (c .before .before .before .before .lanes-below .ensures .1) (c .before .before .before .loop .inv .0) (c .before .before .loop-test .left) (c .before .before .before .loop .inv .1) in
+    begun-is s _ _ (c .before .before .before .before .before .before .before .lane-of .ensures .0) _ refl _ (c .before .before .before .before .before .before .before .before .args .a) _ fine (c .before .begun .ensures)
+
+pub begin-spec : {M : Type 1} → statement M
+begin-spec =
+    tie.close
+    (tie.spec
+    Inv-loop
+    μ-loop
+    lane-of-requires
+    mul-l
+    element-copy-out-l
+    sizes-fit-requires
+    lanes-below-requires
+    loop-holds
+    mul-lane-fits
+    element-copy-out-lane-fits
+    lane-fits-requires
+    both-requires
+    add-i
+    loop-less
+    loop-again
+    begun-requires
+    mul-lane
+    element-set-from-lane
+    returns)

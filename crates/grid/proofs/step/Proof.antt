@@ -1,0 +1,132 @@
+-- `grid::step` meets its contract.
+-- Assumes nothing.
+use Prim.Native.Nat.{_≤_, _-_}
+use native.Mathlib.Omega.{arith}
+use mathlib.Core.Path.{refl, ap, _∙_}
+use borrow.Author.Needs.{needs}
+use Rattle.grid.specs.Inner.{laneAt}
+use Rattle.grid.proofs.StateLaws.{Passed, loop-start, loop-next, loop-end, sizes-high, judged-at, step-is}
+use Rattle.grid.proofs.step.Statement.{statement}
+use Rattle.grid.proofs.step.Tie as tie
+
+abbrev Inv-loop : tie.InvT-loop
+Inv-loop q readings links directory pool t k l j other z fits₀ end i₀ fits i = (i ≤ end) × Passed t i fits
+
+abbrev μ-loop : tie.MeasureT-loop
+μ-loop q readings links directory pool t k l j other z fits₀ end i₀ fits i = end - i
+
+lane-of-requires : tie.Need-lane-of-requires Inv-loop μ-loop
+lane-of-requires c κs = search needs
+
+mul-l : tie.Need-mul-l Inv-loop μ-loop
+mul-l c = omega arith
+
+element-copy-out-l : tie.Need-element-copy-out-l Inv-loop μ-loop
+element-copy-out-l c = omega arith
+
+named-requires : tie.Need-named-requires Inv-loop μ-loop
+named-requires c κs = search needs
+
+lane-of-requires-2 : tie.Need-lane-of-requires-2 Inv-loop μ-loop
+lane-of-requires-2 c κs = search needs
+
+mul-other : tie.Need-mul-other Inv-loop μ-loop
+mul-other c = omega arith
+
+element-copy-out-other : tie.Need-element-copy-out-other Inv-loop μ-loop
+element-copy-out-other c = omega arith
+
+sizes-fit-requires : tie.Need-sizes-fit-requires Inv-loop μ-loop
+sizes-fit-requires c κs = search needs
+
+lanes-below-requires : tie.Need-lanes-below-requires Inv-loop μ-loop
+lanes-below-requires c κs = sizes-high (c .before .before .before .before .before .before .before .before .before .before .args .s) _ (c .sizes-fit .ensures)
+
+loop-holds : tie.Need-loop-holds Inv-loop μ-loop
+loop-holds c = (omega arith, loop-start (c .before .before .before .before .before .before .before .before .before .before .before .args .s) _ (c .before .sizes-fit .ensures))
+
+mul-lane-fits : tie.Need-mul-lane-fits Inv-loop μ-loop
+mul-lane-fits c = omega arith
+
+element-copy-out-lane-fits : tie.Need-element-copy-out-lane-fits Inv-loop μ-loop
+element-copy-out-lane-fits c = omega arith
+
+lane-fits-requires : tie.Need-lane-fits-requires Inv-loop μ-loop
+lane-fits-requires c κs = search needs
+
+both-requires : tie.Need-both-requires Inv-loop μ-loop
+both-requires c κs = search needs
+
+add-i : tie.Need-add-i Inv-loop μ-loop
+add-i c = omega arith
+
+loop-less : tie.Need-loop-less Inv-loop μ-loop
+loop-less c = omega arith
+
+loop-again : tie.Need-loop-again Inv-loop μ-loop
+loop-again c = (omega arith, loop-next (c .before .before .before .before .before .before .before .before .before .before .before .before .before .before .before .before .args .s) _ _ _ _ (c .before .before .before .before .loop .inv .1) (c .before .lane-fits .ensures) (c .both .ensures))
+
+act-requires : tie.Need-act-requires Inv-loop μ-loop
+act-requires c κs =
+    let d = c .before .before .before .before in
+    let s = d .before .before .before .before .before .before .before .before .before .before .before .before .before .args .s in
+    let fine = loop-end s _ _ _ _ (d .before .before .before .sizes-fit .ensures) (d .before .before .lanes-below .ensures .1) (d .before .loop .inv .0) (d .loop-test .left) (d .before .loop .inv .1) in
+    judged-at s (d .before .before .before .before .before .before .before .before .before .before .before .before .before .args .q .0) _ (d .before .before .before .before .before .before .before .before .lane-of .ensures .0) _ refl _ fine
+
+mul-lane : tie.Need-mul-lane Inv-loop μ-loop
+mul-lane c = omega (arith, c .before .before .before .before .before .before .before .before .before .before .before .before .before .before .before .before .before .before .before .before .before .before .lane-of .ensures .1)
+
+element-set-from-lane : tie.Need-element-set-from-lane Inv-loop μ-loop
+element-set-from-lane c = omega (arith, c .before .before .before .before .before .before .before .before .before .before .before .before .before .before .before .before .before .before .before .before .before .before .lane-of .ensures .1)
+
+same-length : tie.Need-same-length Inv-loop μ-loop
+same-length c = search needs
+
+same-length-2 : tie.Need-same-length-2 Inv-loop μ-loop
+same-length-2 c = search needs
+
+same-length-3 : tie.Need-same-length-3 Inv-loop μ-loop
+same-length-3 c = search needs
+
+same-length-4 : tie.Need-same-length-4 Inv-loop μ-loop
+same-length-4 c = search needs
+
+returns : tie.Need-returns Inv-loop μ-loop
+returns c =
+    let d = c .before .before .before .before .before .before .before .before .before .before .before .before .before .before in
+    let s = d .before .before .before .before .before .before .before .before .before .before .before .before .before .args .s in
+    let fine = loop-end s _ _ _ _ (d .before .before .before .sizes-fit .ensures) (d .before .before .lanes-below .ensures .1) (d .before .loop .inv .0) (d .loop-test .left) (d .before .loop .inv .1) in
+    let named = d .before .before .before .before .before .before .named .ensures in
+    step-is s (d .before .before .before .before .before .before .before .before .before .before .before .before .before .args .q .0) _ (d .before .before .before .before .before .before .before .before .lane-of .ensures .0) _ refl _ _ (d .before .before .before .before .before .lane-of2 .ensures .0 ∙ ap laneAt named) refl _ _ _ _ fine (c .before .before .before .before .before .before .before .before .before .act .ensures)
+
+pub step-spec : {M : Type 1} → statement M
+step-spec =
+    tie.close
+    (tie.spec
+    Inv-loop
+    μ-loop
+    lane-of-requires
+    mul-l
+    element-copy-out-l
+    named-requires
+    lane-of-requires-2
+    mul-other
+    element-copy-out-other
+    sizes-fit-requires
+    lanes-below-requires
+    loop-holds
+    mul-lane-fits
+    element-copy-out-lane-fits
+    lane-fits-requires
+    both-requires
+    add-i
+    loop-less
+    loop-again
+    act-requires
+    mul-lane
+    element-set-from-lane
+    same-length
+    same-length-2
+    same-length-3
+    same-length-4
+    returns)

@@ -1,0 +1,28 @@
+-- What functions inside the crate lean on; no statement cites it.
+-- Assumes nothing.
+use Prim.Native.Nat.{ℕ, _<_}
+use mathlib.Core.Path.{_≡_}
+use mathlib.Core.Bool.{Bool, true}
+use lib.Dec.{ltb}
+use Rattle.numbers.specs.Numbers.{mostProcesses}
+use Rattle.refusals.specs.Orders.{pick}
+use Rattle.lanes.specs.declared.Lane.{Lane}
+use Rattle.lanes.specs.Ranges.{laneFits, sizesFit}
+use Rattle.steps.specs.declared.Sizes.{Sizes}
+use Rattle.steps.specs.declared.Change.{Change}
+use Rattle.steps.specs.declared.Next.{Next}
+use Rattle.steps.specs.Changes.{laneAfter, topAfter}
+use Rattle.grid.specs.declared.Acted.{Acted}
+use Rattle.grid.specs.Calls.{advance, answerOf}
+
+-- A process's lane; 0 where it has none.
+abbrev pub laneAt : ℕ → ℕ
+laneAt q = pick (ltb q mostProcesses) q 0
+
+-- What the judge of a step is to know where the state fits.
+pub record Judged (fits : Bool) (z : Sizes) (q : ℕ) (l : Lane) : Type 0 where
+  pub sizes : fits ≡ true → sizesFit (z .p) (z .m) (z .top) ≡ true
+  pub lane : fits ≡ true → q < z .p → laneFits (z .p) (z .m) l ≡ true
+
+abbrev pub movedTo : Lane → ℕ → Change → Next → Acted
+movedTo l top change next = record { lane = advance next (laneAfter change l); top = topAfter change top; answer = answerOf (l .steps) next }

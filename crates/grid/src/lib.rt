@@ -1,0 +1,154 @@
+// The grid: open it, begin an operation, take a step.
+ghost use mathlib.Core.Path.{_≡_};
+ghost use Rattle.steps.specs.Memory.{memory};
+ghost use Rattle.grid.specs.Calls.{outcome, openOf, beginOf, stepOf};
+
+mod acts;
+mod begins;
+mod opens;
+
+use lanes::Lane;
+use lanes::Op;
+use lanes::State;
+use numbers::Cell;
+use numbers::LANES;
+use numbers::Process;
+use refusals::Refusal;
+use steps::Change;
+use steps::Next;
+use steps::Sizes;
+
+// What an operation is to be.
+pub enum Ask {
+    Read(Cell),
+    Write(Cell, u32),
+    Asked(Cell),
+}
+
+// What a call answers. A finished operation says how many of its own steps it took.
+pub enum Answer {
+    Begun,
+    Going,
+    Read(u32, u8),
+    Written(u8),
+    Asked(bool, u8),
+    Refused(Refusal),
+}
+
+// A state, and what was answered.
+pub struct Stepped {
+    pub state: State,
+    pub answer: Answer,
+}
+
+// Whether a grid was opened.
+pub enum Opening {
+    Open,
+    Refused(Refusal),
+}
+
+// The grid's state; where it was refused, the closed state, which every call refuses.
+pub struct Opened {
+    pub state: State,
+    pub opening: Opening,
+}
+
+// What a call makes of a lane and of the pool's top, and what it answers.
+pub struct Acted {
+    pub lane: Lane,
+    pub top: u32,
+    pub answer: Answer,
+}
+
+// What a step comes to.
+pub enum Verdict {
+    Refused(Refusal),
+    Moved(Change, Next),
+}
+
+// Opens a grid in lent memory of any content: only the lengths are looked at.
+pub fn open(
+    p: u32,
+    m: u32,
+    first: u32,
+    step: u32,
+    readings: &[u32],
+    links: &[u64],
+    directory: &[u32],
+    pool: &[u32],
+) -> Opened
+    ensures { λ r. ⌜ r ≡ openOf p m first step (memory (now (readings .entry)) (now (links .entry)) (now (directory .entry)) (now (pool .entry))) ⌝ }
+{
+    let is = opens::opening_of(p, m, readings, links, directory, pool);
+    match is {
+        Opening::Open => opens::opened(p, m, first, step, Opening::Open),
+        Opening::Refused(r) => opens::opened(0, 0, 0, 0, Opening::Refused(r)),
+    }
+}
+
+// Begins an operation of process q. The state is copied once, into `t`, and changed there.
+pub fn begin(s: State, q: Process, a: Ask) -> Stepped
+    ensures { λ r. ⌜ r ≡ beginOf s (q .0) a ⌝ }
+{
+    let mut t = s;
+    let k = begins::lane_of(q);
+    let l = t.lanes[k];
+    let mut fits = lanes::sizes_fit(t.p, t.m, t.top);
+    let end = begins::lanes_below(fits, t.p);
+    let mut i: usize = 0;
+    while i < end {
+        fits = begins::both(fits, lanes::lane_fits(t.p, t.m, t.lanes[i]));
+        i = i + 1;
+    }
+    let b = begins::begun(fits, t.p, t.m, t.top, q, l, a);
+    let lane = b.lane;
+    let answer = b.answer;
+    t.top = b.top;
+    t.lanes[k] = lane;
+    Stepped {
+        state: t,
+        answer: answer,
+    }
+}
+
+// One step of process q. The state is copied once, into `t`, and changed there; no other function takes it.
+pub fn step(
+    s: State,
+    q: Process,
+    readings: &mut [u32],
+    links: &mut [u64],
+    directory: &mut [u32],
+    pool: &mut [u32],
+) -> Stepped
+    ensures { λ r. ⌜ outcome r (memory (now (readings .exit)) (now (links .exit)) (now (directory .exit)) (now (pool .exit))) ≡ stepOf s (q .0) (memory (now (readings .entry)) (now (links .entry)) (now (directory .entry)) (now (pool .entry))) ⌝ }
+{
+    let mut t = s;
+    let k = begins::lane_of(q);
+    let l = t.lanes[k];
+    let o = l.op;
+    let j = begins::lane_of(acts::named(o));
+    let other = t.lanes[j];
+    let z = Sizes {
+        p: t.p,
+        m: t.m,
+        first: t.first,
+        step: t.step,
+        top: t.top,
+    };
+    let mut fits = lanes::sizes_fit(t.p, t.m, t.top);
+    let end = begins::lanes_below(fits, t.p);
+    let mut i: usize = 0;
+    while i < end {
+        fits = begins::both(fits, lanes::lane_fits(t.p, t.m, t.lanes[i]));
+        i = i + 1;
+    }
+    let b = acts::act(fits, z, q, l, other.marks, readings, links, directory, pool);
+    let lane = b.lane;
+    let answer = b.answer;
+    t.top = b.top;
+    t.lanes[k] = lane;
+    Stepped {
+        state: t,
+        answer: answer,
+    }
+}

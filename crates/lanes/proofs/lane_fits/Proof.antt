@@ -1,0 +1,43 @@
+-- `lanes::lane_fits` meets its contract.
+-- Assumes nothing.
+use Rattle.lanes.proofs.FitLaws.{many-marks, many-segments, many-steps, lane-op}
+use borrow.Author.Needs.{needs}
+use Rattle.lanes.proofs.lane_fits.Statement.{statement}
+use Rattle.lanes.proofs.lane_fits.Tie as tie
+
+most-marks-requires : tie.Need-most-marks-requires
+most-marks-requires c κs = search needs
+
+cast-if1 : tie.Need-cast-if1
+cast-if1 c = search needs
+
+returns : tie.Need-returns
+returns c = search (many-marks)
+
+cast-if2 : tie.Need-cast-if2
+cast-if2 c = search needs
+
+returns-2 : tie.Need-returns-2
+returns-2 c = search (many-segments)
+
+returns-3 : tie.Need-returns-3
+returns-3 c = search (many-steps)
+
+op-fits-requires : tie.Need-op-fits-requires
+op-fits-requires c κs = search needs
+
+returns-4 : tie.Need-returns-4
+returns-4 c = search (lane-op)
+
+pub lane-fits-spec : {M : Type 1} → statement M
+lane-fits-spec =
+    tie.close
+    (tie.spec
+    most-marks-requires
+    cast-if1
+    returns
+    cast-if2
+    returns-2
+    returns-3
+    op-fits-requires
+    returns-4)

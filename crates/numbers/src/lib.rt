@@ -1,0 +1,120 @@
+// The numbers of the grid: cells, places and processes, segments, links and the filling rule.
+ghost use mathlib.Core.Path.{_≡_};
+ghost use Prim.Native.Nat.{_%_};
+ghost use Rattle.numbers.specs.Numbers.{mostMarks, directoryWords, directoryWord, poolWords, segmentOf, offsetOf, sizeOf};
+ghost use Rattle.numbers.specs.Numbers.{packOf, processOf, placeOf, productOf, fillOf};
+
+// A cell's number.
+pub struct Cell(pub u32);
+
+// A place in a lane; a link may name any place of 50 bits, whether or not the lane has it.
+pub struct Place(pub u64);
+
+// A process's number.
+pub struct Process(pub u32);
+
+// Processes at the most, and the lanes that a state has room for.
+pub const PROCESSES: u32 = 16;
+
+pub const LANES: usize = PROCESSES as usize;
+
+// Cells at the most.
+pub const CELLS: u32 = 65536;
+
+// Segments of a lane at the most.
+pub const SEGMENTS: u32 = 17;
+
+// An operation's own steps so far, at the most.
+pub const STEPS: u8 = 10;
+
+// What a pool word holds where no cell's mark may stand.
+pub const TOMBSTONE: u32 = 4294967295;
+
+// A link's process is one of 2^14, its place one of 2^50.
+pub const LINK_PROCESSES: u64 = 16384;
+
+pub const LINK_PLACES: u64 = 1125899906842624;
+
+// The marks in force of a lane at the most, in a grid of m cells.
+pub fn most_marks(m: u32) -> usize
+    ensures { λ r. ⌜ r ≡ mostMarks m ⌝ }
+{
+    2 * (m as usize) + 1
+}
+
+// The directory's length, for p processes.
+pub fn directory_words(p: u32) -> usize
+    ensures { λ r. ⌜ r ≡ directoryWords p ⌝ }
+{
+    (SEGMENTS as usize) * (p as usize)
+}
+
+// Which directory word says where segment s of process q starts.
+pub fn directory_word(q: Process, s: u32) -> usize
+    ensures { λ r. ⌜ r ≡ directoryWord (q .0) s ⌝ }
+{
+    (SEGMENTS as usize) * (q.0 as usize) + (s as usize)
+}
+
+// The pool's length, for p processes and m cells.
+pub fn pool_words(p: u32, m: u32) -> usize
+    ensures { λ r. ⌜ r ≡ poolWords p m ⌝ }
+{
+    4 * (m as usize) + 2 * (p as usize)
+}
+
+// The segment of a place: floor(log2(n + 2)) - 1, taken of (n + 2) / 2 because n + 2 may pass 64 bits.
+pub fn segment_of(n: Place) -> u32
+    ensures { λ r. ⌜ r ≡ segmentOf (n .0) ⌝ }
+{
+    63 - u64::leading_zeros(n.0 / 2 + 1)
+}
+
+// Where in its segment a place lies: the segment's first place is 2 * (2^s - 1).
+pub fn offset_of(n: Place) -> u64
+    ensures { λ r. ⌜ r ≡ offsetOf (n .0) ⌝ }
+{
+    n.0 - 2 * ((1u64 << segment_of(n)) - 1)
+}
+
+// How many words segment s has; 0 where 64 bits cannot hold it, which no lane reaches.
+pub fn size_of(s: u32) -> u64
+    ensures { λ r. ⌜ r ≡ sizeOf s % 18446744073709551616 ⌝ }
+{
+    if s < 63 { 2u64 << s } else { 0 }
+}
+
+// The link of a process and a place; of either number only the bits that a link has room for.
+pub fn pack(q: Process, n: Place) -> u64
+    ensures { λ r. ⌜ r ≡ packOf (q .0) (n .0) ⌝ }
+{
+    (q.0 as u64) % LINK_PROCESSES * LINK_PLACES + n.0 % LINK_PLACES
+}
+
+// The process that a link names.
+pub fn process_of(w: u64) -> Process
+    ensures { λ r. ⌜ r .0 ≡ processOf w ⌝ }
+{
+    Process((w / LINK_PLACES) as u32)
+}
+
+// The place that a link names.
+pub fn place_of(w: u64) -> Place
+    ensures { λ r. ⌜ r .0 ≡ placeOf w ⌝ }
+{
+    Place(w % LINK_PLACES)
+}
+
+// a * b, modulo 2^32.
+pub fn wrapping_mul(a: u32, b: u32) -> u32
+    ensures { λ r. ⌜ r ≡ productOf a b ⌝ }
+{
+    ((a as u64) * (b as u64) % 4294967296) as u32
+}
+
+// The reading that cell i holds before any write.
+pub fn fill(first: u32, step: u32, i: Cell) -> u32
+    ensures { λ r. ⌜ r ≡ fillOf first step (i .0) ⌝ }
+{
+    std::num::wrapping_add_u32(first, wrapping_mul(step, i.0))
+}

@@ -1,0 +1,137 @@
+-- Each case of what a step reads, as a law of its definition: what the tests on the way say decides the case.
+-- Assumes nothing.
+use mathlib.Core.Path.{_≡_, refl, ap, sym, _∙_}
+use mathlib.Core.List.{List}
+use Prim.Native.Nat.{ℕ, _+_, _-_, _%_, _^_, _<_, _≤_}
+use native.Mathlib.Omega.{arith}
+use lib.ListN.{length, getD, take, drop, List·getD-eq-default, length-take, length-drop}
+use lib.Seq.{getD-take, getD-drop, length-take-le}
+use borrow.Author.Tests.{lt-ltb, le-ltb, eq-eqb, ne-eqb, ltb-true, ltb-false}
+use lib.Dec.{ltb}
+use mathlib.Core.Bool.{Bool, true, false}
+use Rattle.numbers.specs.Numbers.{processOf, placeOf, segmentOf, offsetOf, sizeOf, directoryWord}
+use Rattle.numbers.specs.Laws.{segment-bounds, offset-below, size-least, size-word}
+use Rattle.numbers.specs.declared.Place.{Place}
+use Rattle.numbers.specs.declared.Process.{Process}
+use Rattle.lanes.specs.declared.Check.{Check}
+use Rattle.lanes.specs.declared.Check.the-variants as Check
+use Rattle.steps.specs.declared.Got.{Got}
+use Rattle.steps.specs.declared.Got.the-variants as Got
+use Rattle.steps.specs.declared.Found.{Found}
+use Rattle.steps.specs.declared.Found.the-variants as Found
+use Rattle.steps.specs.Inner.{wordIn, Part}
+use Rattle.steps.specs.Steps.{startOf, poolWord, checkLink, checkMarks, checkMark, check}
+
+pub word-outside : (a : List ℕ) (i : ℕ) → length a ≤ i → 0 ≡ getD a i 0
+word-outside a i h = sym (List·getD-eq-default a 0 h)
+
+pub start-is : (directory : List ℕ) (q n s k r : ℕ) → s ≡ segmentOf n → k ≡ directoryWord q s → r ≡ getD directory k 0 → r ≡ startOf directory q n
+start-is directory q n s k r e f g = g ∙ rw (f, e)
+
+module _ (part : List ℕ) (at : ℕ) where
+  pub word-inside : at < length part → Got.Word (getD part at 0) ≡ wordIn part at
+  word-inside h = simp (lt-ltb _ _ h)
+
+  pub word-past : length part ≤ at → Got.Outside ≡ wordIn part at
+  word-past h = simp (le-ltb _ _ h)
+
+-- a size that a word of 64 bits holds is the segment's own
+pub size-is : (n s z : ℕ) → n < 18446744073709551614 → s ≡ segmentOf n → z ≡ sizeOf s % 18446744073709551616 → z ≡ sizeOf (segmentOf n)
+unfolding sizeOf
+size-is n s z h e f =
+    let b = segment-bounds n .0 in
+    let g : z ≡ 2 ^ (segmentOf n + 1) % 18446744073709551616 = f ∙ rw e in
+    omega arith
+
+module _ (len from n s : ℕ) (h : from < len) (e : s ≡ segmentOf n) where
+  size-at : sizeOf s ≡ sizeOf (segmentOf n)
+  size-at = rw e
+
+  whole : len ≤ from + sizeOf (segmentOf n) → Part len from n len
+  whole k = record { low = omega arith; high = omega arith; cut = k; holds = λ x. x }
+
+  pub part-huge : len < 18446744073709551616 → 63 ≤ s → Part len from n len
+  part-huge few k = let g = size-at in let d = size-least s 63 k in whole (omega arith)
+
+  module _ (z : ℕ) (f : z ≡ sizeOf s % 18446744073709551616) (k : s < 63) where
+    pub part-end : z ≤ len - from → Part len from n (from + z)
+    part-end j =
+        let g = size-at in
+        let d = size-word s k in
+        let o = offset-below n in
+        record { low = omega arith; high = omega arith; cut = omega arith; holds = λ x. omega arith }
+
+    pub part-cut : len - from < z → Part len from n len
+    part-cut j = let g = size-at in let d = size-word s k in whole (omega arith)
+
+-- a word of the pool, read through the segment's part of it
+pub pool-past : (pool : List ℕ) (start n : ℕ) → length pool ≤ start → Got.Outside ≡ poolWord pool start n
+pool-past pool start n h = let k : length pool ≤ start + offsetOf n = omega arith in simp (le-ltb _ _ k)
+
+module _ (pool : List ℕ) (start n o : ℕ) (e : o ≡ offsetOf n) where
+  pub pool-part : (end : ℕ) (r : Got) → Part (length pool) start n end → r ≡ wordIn (take (end - start) (drop start pool)) o → r ≡ poolWord pool start n
+  pool-part end r h f = f ∙ by (ltb o (end - start)) refl
+    where
+      low : start ≤ end
+      low = h .low
+
+      room : end - start ≤ length (drop start pool)
+      room = let k = h .high in simp length-drop (omega arith)
+
+      at-start : start + offsetOf n ≡ start + o
+      at-start = rw e
+
+      by : (b : Bool) → ltb o (end - start) ≡ b → wordIn (take (end - start) (drop start pool)) o ≡ poolWord pool start n
+      by true g =
+          let x : o < end - start = ltb-true o (end - start) g in
+          let y : start + o < length pool = omega (arith, h .high, h .low) in
+          rw (length-take-le (end - start) (drop start pool) room, at-start)
+          (simp (lt-ltb _ _ x, lt-ltb _ _ y) (ap Got.Word (getD-take _ _ _ 0 x ∙ getD-drop start pool _ 0)))
+      by false g =
+          let x : end - start ≤ o = ltb-false o (end - start) g in
+          let y : length pool ≤ start + o = outside x (ltb (start + o) (length pool)) refl in
+          rw (length-take-le (end - start) (drop start pool) room, at-start) (simp (le-ltb _ _ x, le-ltb _ _ y))
+        where
+          outside : end - start ≤ o → (b : Bool) → ltb (start + o) (length pool) ≡ b → length pool ≤ start + o
+          outside x true k =
+              let j : start + offsetOf n < length pool = rw at-start (ltb-true (start + o) (length pool) k) in
+              absurd (let y : ⊥ = omega (arith, h .holds j, h .low) in y)
+          outside x false k = ltb-false (start + o) (length pool) k
+
+-- the check
+module _ (p w r : ℕ) (e : r ≡ processOf w) where
+  pub link-on : r < p → Found.On (Check.Marks w) ≡ checkLink p w
+  link-on h = let k : processOf w < p = rw e at h in simp (lt-ltb _ _ k)
+
+  pub link-off : p ≤ r → Found.NotWritten w ≡ checkLink p w
+  link-off h = let k : p ≤ processOf w = rw e at h in simp (le-ltb _ _ k)
+
+module _ (marks w n : ℕ) (e : n ≡ placeOf w) where
+  pub marks-on : n < marks → Found.On (Check.Directory w) ≡ checkMarks marks w
+  marks-on h = let k : placeOf w < marks = rw e at h in simp (lt-ltb _ _ k)
+
+  pub marks-off : marks ≤ n → Found.NotWritten w ≡ checkMarks marks w
+  marks-off h = let k : marks ≤ placeOf w = rw e at h in simp (le-ltb _ _ k)
+
+module _ (i w x : ℕ) (g : Got) (e : g ≡ Got.Word x) where
+  pub mark-written : x ≡ i → Found.Written ≡ checkMark i w g
+  mark-written h = rw e (simp (eq-eqb _ _ h))
+
+  pub mark-not : (x ≡ i → ⊥) → Found.NotWritten w ≡ checkMark i w g
+  mark-not h = rw e (simp (ne-eqb _ _ h))
+
+module _ (p seen : ℕ) (links directory pool : List ℕ) (i : ℕ) (c : Check) (r : Found) where
+  pub check-a : (w : ℕ) → c ≡ Check.Link → w ≡ getD links i 0 → r ≡ checkLink p w → r ≡ check p seen links directory pool i c
+  check-a w e f g = rw (e, ← f) g
+
+  pub check-b : (w : ℕ) → c ≡ Check.Marks w → r ≡ checkMarks seen w → r ≡ check p seen links directory pool i c
+  check-b w e g = rw e g
+
+  pub check-d : (start w : ℕ) (n : Place) (got : Got) → c ≡ Check.Mark start w → n .0 ≡ placeOf w → got ≡ poolWord pool start (n .0)
+      → r ≡ checkMark i w got → r ≡ check p seen links directory pool i c
+  check-d start w n got e f g h = rw (e, ← f, ← g) h
+
+pub check-c : (p seen : ℕ) (links directory pool : List ℕ) (i : ℕ) (c : Check) (w start : ℕ) (q : Process) (n : Place) → c ≡ Check.Directory w
+    → q .0 ≡ processOf w → n .0 ≡ placeOf w → start ≡ startOf directory (q .0) (n .0)
+    → Found.On (Check.Mark start w) ≡ check p seen links directory pool i c
+check-c p seen links directory pool i c w start q n e f g h = rw (e, ← f, ← g, ← h)

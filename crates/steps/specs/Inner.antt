@@ -1,0 +1,20 @@
+-- What functions inside the crate promise of a part of the pool; no statement cites it.
+-- Assumes nothing.
+use Prim.Native.Nat.{ℕ, _+_, _<_, _≤_}
+use mathlib.Core.List.{List}
+use lib.Dec.{ltb}
+use lib.ListN.{getD, length}
+use Rattle.numbers.specs.Numbers.{segmentOf, offsetOf, sizeOf}
+use Rattle.refusals.specs.Orders.{pick}
+use Rattle.steps.specs.declared.Got.{Got}
+use Rattle.steps.specs.declared.Got.the-variants.{Outside, Word}
+
+abbrev pub wordIn : List ℕ → ℕ → Got
+wordIn part at = pick (ltb at (length part)) (Word (getD part at 0)) Outside
+
+-- The part of a pool of `len` words from `from` to `end` is the segment's: it ends with the segment or the pool.
+pub record Part (len from n end : ℕ) : Type 0 where
+  pub low : from ≤ end
+  pub high : end ≤ len
+  pub cut : end ≤ from + sizeOf (segmentOf n)
+  pub holds : from + offsetOf n < len → from + offsetOf n < end

@@ -1,0 +1,4 @@
+pub mod Memory
+pub mod Steps
+pub mod Changes
+pub mod Inner

@@ -1,0 +1,54 @@
+-- What a step of process q leaves alone: the other lanes stay as they should.
+-- Assumes nothing.
+use mathlib.Core.Path.{_≡_, refl, _∙_, subst}
+use mathlib.Core.Logic.{_≢_}
+use Prim.Native.Nat.{ℕ, _<_}
+use native.Mathlib.Omega.{arith}
+use Rattle.theory.specs.Array.{Op}
+use Rattle.theory.specs.Machine.{Grid, Link, Stage, Lane, idle, busy}
+use Rattle.theory.specs.Standing.{After}
+use Rattle.theory.specs.World.{World, Swapped}
+use Rattle.theory.specs.Claims.{Writes}
+use Rattle.theory.specs.Inv.{Judged, sure, dud, Making, Marked, StageOk, LaneOk}
+use Rattle.theory.specs.ClaimsKept.{NotStored, Frame, fresh-frame, sure-frame, dud-frame, mine-frame}
+
+module _ {G : Grid} {oldLink : ℕ → Link} {q : ℕ} {W W′ : World} (F : Frame G oldLink q W W′) (r : ℕ) (ne : r ≢ q) where
+  -- a swapped link stays
+  swapped-frame : (i : ℕ) → Swapped G oldLink W i → Swapped G oldLink W′ i
+  swapped-frame i t = rw (F .link i t) t
+
+  judged-frame : (o : Op) (i : ℕ) (g : Stage) (L : Link) → After g → W .w .lane r ≡ busy o i g → Judged G oldLink W r o i L → Judged G oldLink W′ r o i L
+  judged-frame o i g L a e (sure t k s) = sure (swapped-frame i t) (F .link i t ∙ k) (sure-frame F r ne o i g a e s)
+  judged-frame o i g L a e (dud k s) = dud k (dud-frame F r ne o i g a e s)
+
+  making-frame : (o : Op) (i : ℕ) (g : Stage) (L : Link) (n : ℕ) → After g → W .w .lane r ≡ busy o i g → Making G oldLink W r o i L n → Making G oldLink W′ r o i L n
+  making-frame o i g L n a e h = record { wrote = mine-frame F r ne o i g a e (h .wrote); bad = h .bad; low = rw (F .inForce r ne) (h .low); high = rw (F .used r ne) (h .high) }
+
+  marked-frame : (o : Op) (i : ℕ) (g : Stage) (L : Link) (n : ℕ) → After g → W .w .lane r ≡ busy o i g → Marked G oldLink W r o i L n → Marked G oldLink W′ r o i L n
+  marked-frame o i g L n a e h = record { wrote = mine-frame F r ne o i g a e (h .wrote); bad = h .bad; high = rw (F .used r ne) (h .high); there = F .marks r n ne ∙ h .there }
+
+  upto : (L : Link) → L .place < W .used (L .proc) → L .place < W′ .used (L .proc)
+  upto L h = omega (arith, F .up (L .proc))
+
+  stage-frame : (o : Op) (i : ℕ) (g : Stage) → W .w .lane r ≡ busy o i g → StageOk G oldLink W r o i g → StageOk G oldLink W′ r o i g
+  unfolding NotStored
+  stage-frame o i Stage.store e h = (F .fresh r o i Stage.store ne e (λ j v s. s .2) (h .0), h .1)
+  stage-frame o i Stage.checkLink e h = fresh-frame F r ne o i e h
+  stage-frame o i (Stage.checkMarks L) e h = (judged-frame o i (Stage.checkMarks L) L tt e (h .0), h .1)
+  stage-frame o i (Stage.checkDirectory L) e h = (judged-frame o i (Stage.checkDirectory L) L tt e (h .0), h .1, upto L (h .2))
+  stage-frame o i (Stage.checkMark L) e h = (judged-frame o i (Stage.checkMark L) L tt e (h .0), h .1, upto L (h .2))
+  stage-frame o i Stage.fetch e h = (h .0, swapped-frame i (h .1), F .fresh r o i Stage.fetch ne e (λ j v s. subst (λ x. Writes x v) (h .0) (s .0)) (h .2))
+  stage-frame o i (Stage.draw s L n) e h = (making-frame o i (Stage.draw s L n) L n tt e (h .0), h .1)
+  stage-frame o i (Stage.enter s L n) e h = (making-frame o i (Stage.enter s L n) L n tt e (h .0), h .1)
+  stage-frame o i (Stage.tombstone L n) e h = (making-frame o i (Stage.tombstone L n) L n tt e (h .0), h .1)
+  stage-frame o i (Stage.mark L n) e h = (making-frame o i (Stage.mark L n) L n tt e (h .0), h .1)
+  stage-frame o i (Stage.force L n) e h = (marked-frame o i (Stage.force L n) L n tt e (h .0), rw (F .inForce r ne) (h .1))
+  stage-frame o i (Stage.swap L n) e h = (marked-frame o i (Stage.swap L n) L n tt e (h .0), F .inForce r ne ∙ h .1)
+  stage-frame o i (Stage.takeBack n) e h = (mine-frame F r ne o i (Stage.takeBack n) tt e (h .0), swapped-frame i (h .1), F .inForce r ne ∙ h .2)
+
+  lane-go : (l : Lane) → W .w .lane r ≡ l → LaneOk G oldLink W r l → LaneOk G oldLink W′ r l
+  lane-go idle e h = tt
+  lane-go (busy o i g) e h = record { proc = h .proc; cell = h .cell; past = rw (F .since r o i g ne e) (omega (arith, h .past, F .now)); at = stage-frame o i g e (h .at) }
+
+  pub lane-frame : LaneOk G oldLink W r (W .w .lane r) → LaneOk G oldLink W′ r (W′ .w .lane r)
+  lane-frame h = rw (F .lane r ne) (lane-go (W .w .lane r) refl h)

@@ -1,0 +1,100 @@
+-- The invariant: what holds of a run, its lanes, its cells and its order so far.
+-- Assumes nothing.
+use mathlib.Core.Path.{_≡_}
+use mathlib.Core.Logic.{_⊎_, _≢_}
+use mathlib.Core.Bool.{Bool, true, false}
+use mathlib.Core.List.{List·Memᴰ}
+use Prim.Native.Nat.{ℕ, suc, _≤_, _<_}
+use Rattle.theory.specs.Array.{Op, read}
+use Rattle.theory.specs.Order.{Done, Entry, Orderly, Is}
+use Rattle.theory.specs.Machine.{Grid, Link, mk, Stage, Lane, idle, busy}
+use Rattle.theory.specs.Standing.{settled}
+use Rattle.theory.specs.OrderLaws.{valueIn, writtenIn}
+use Rattle.theory.specs.World.{World, Swapped, Unplaced}
+use Rattle.theory.specs.Claims.{Writes, Stored, Fresh, Sure, Dud, Mine}
+
+-- once the tombstone is stored, the place is not the remembered link's
+abbrev pub Clear : Bool → ℕ → Link → ℕ → Type 0
+Clear true q L n = L ≢ mk q n
+Clear false q L n = Unit {0}
+
+module _ (G : Grid) (oldLink : ℕ → Link) (W : World) where
+  -- An operation in its check, which read the link L: L is the cell's swapped link, and the check will pass; or L is the
+  -- old link, and it will fail.
+  pub data Judged (q : ℕ) (o : Op) (i : ℕ) (L : Link) : Type 0 where
+    sure : Swapped G oldLink W i → W .w .mem .link i ≡ L → Sure G oldLink W q o i → Judged q o i L
+    dud : L ≡ oldLink i → Dud G oldLink W q o i → Judged q o i L
+
+  -- An operation past its failed check, whose remembered link L is the old one: before place n's mark is stored, and after.
+  pub record Making (q : ℕ) (o : Op) (i : ℕ) (L : Link) (n : ℕ) : Type 0 where
+    pub wrote : Mine G oldLink W q o i
+    pub bad : L ≡ oldLink i
+    pub low : W .w .mem .inForce q ≤ n
+    pub high : n ≤ W .used q
+
+  pub record Marked (q : ℕ) (o : Op) (i : ℕ) (L : Link) (n : ℕ) : Type 0 where
+    pub wrote : Mine G oldLink W q o i
+    pub bad : L ≡ oldLink i
+    pub high : n < W .used q
+    pub there : W .w .mem .marks q n ≡ G .code i
+
+  -- what holds of process q's operation o on cell i at each stage
+  abbrev pub StageOk : ℕ → Op → ℕ → Stage → Type 0
+  StageOk q o i Stage.store = Unplaced G oldLink W q × ((v : ℕ) × Writes o v)
+  StageOk q o i Stage.checkLink = Fresh G oldLink W q o i
+  StageOk q o i (Stage.checkMarks L) = Judged q o i L × (L .proc < G .p)
+  StageOk q o i (Stage.checkDirectory L) = Judged q o i L × (L .proc < G .p) × (L .place < W .used (L .proc))
+  StageOk q o i (Stage.checkMark L) = Judged q o i L × (L .proc < G .p) × (L .place < W .used (L .proc))
+  StageOk q o i Stage.fetch = (o ≡ read) × Swapped G oldLink W i × Unplaced G oldLink W q
+  StageOk q o i (Stage.draw s L n) = Making q o i L n × Clear s q L n
+  StageOk q o i (Stage.enter s L n) = Making q o i L n × Clear s q L n
+  StageOk q o i (Stage.tombstone L n) = Making q o i L n × (L ≡ mk q n)
+  StageOk q o i (Stage.mark L n) = Making q o i L n × (L ≢ mk q n)
+  StageOk q o i (Stage.force L n) = Marked q o i L n × (W .w .mem .inForce q ≤ n)
+  StageOk q o i (Stage.swap L n) = Marked q o i L n × (W .w .mem .inForce q ≡ suc n)
+  StageOk q o i (Stage.takeBack n) = Mine G oldLink W q o i × Swapped G oldLink W i × (W .w .mem .inForce q ≡ suc n)
+
+  pub record BusyOk (q : ℕ) (o : Op) (i : ℕ) (g : Stage) : Type 0 where
+    pub proc : q < G .p
+    pub cell : i < G .m
+    pub past : W .w .since q < W .w .now
+    pub at : StageOk q o i g
+
+  abbrev pub LaneOk : ℕ → Lane → Type 0
+  LaneOk q idle = Unit {0}
+  LaneOk q (busy o i g) = BusyOk q o i g
+
+  -- A cell that was never swapped is unwritten, shows its old link, and if any write has stored to it, one has stored its
+  -- reading. A swapped cell is written, holds the array's value, and its link names a settled place that holds its mark.
+  pub data CellOk (i : ℕ) : Type 0 where
+    old : writtenIn (W .log) i ≡ false → W .w .mem .link i ≡ oldLink i
+        → ((r v : ℕ) → Stored (W .w .lane r) i v → (r′ : ℕ) × Stored (W .w .lane r′) i (W .w .mem .reading i)) → CellOk i
+    new : Swapped G oldLink W i → writtenIn (W .log) i ≡ true → valueIn (G .f) (W .log) i ≡ W .w .mem .reading i
+        → W .w .mem .link i .proc < G .p
+        → W .w .mem .link i .place < settled (W .w .lane (W .w .mem .link i .proc)) (W .w .mem .inForce (W .w .mem .link i .proc))
+        → W .w .mem .marks (W .w .mem .link i .proc) (W .w .mem .link i .place) ≡ G .code i → CellOk i
+
+  -- the entry is an operation under way
+  pub record Under (e : Entry) : Type 0 where
+    pub stage : Stage
+    pub lane : W .w .lane (e .who) ≡ busy (e .op) (e .cell) stage
+    pub since : W .w .since (e .who) ≡ e .began
+
+  -- The order so far: orderly, before now; every ended operation is in it, and besides only operations under way; and no
+  -- ended operation is under way.
+  pub record LogOk : Type 0 where
+    pub orderly : Orderly (G .f) (W .log)
+    pub early : (e : Entry) → List·Memᴰ e (W .log) → e .at < W .w .now
+    pub complete : (d : Done) → List·Memᴰ d (W .w .ended) → (e : Entry) × List·Memᴰ e (W .log) × Is e d
+    pub sound : (e : Entry) → List·Memᴰ e (W .log) → ((d : Done) × List·Memᴰ d (W .w .ended) × Is e d) ⊎ Under e
+    pub over : (d : Done) → List·Memᴰ d (W .w .ended) → (q : ℕ) (o : Op) (i : ℕ) (g : Stage) → W .w .lane q ≡ busy o i g → d .began ≢ W .w .since q
+
+  -- `counts`: settled marks, marks in force and used places, none more than the next. `places`: a used place marks no cell
+  -- whose old link it is. `apart`: two operations under way began at two calls.
+  pub record Inv : Type 0 where
+    pub lanes : (q : ℕ) → LaneOk q (W .w .lane q)
+    pub cells : (i : ℕ) → i < G .m → CellOk i
+    pub counts : (q : ℕ) → (settled (W .w .lane q) (W .w .mem .inForce q) ≤ W .w .mem .inForce q) × (W .w .mem .inForce q ≤ W .used q)
+    pub places : (q n i : ℕ) → i < G .m → n < W .used q → W .w .mem .marks q n ≡ G .code i → oldLink i ≢ mk q n
+    pub apart : (q r : ℕ) (o o′ : Op) (i i′ : ℕ) (g g′ : Stage) → W .w .lane q ≡ busy o i g → W .w .lane r ≡ busy o′ i′ g′ → W .w .since q ≡ W .w .since r → q ≡ r
+    pub logs : LogOk

@@ -1,0 +1,83 @@
+-- Steps that change no cell: what they leave, and what they owe.
+-- Assumes nothing.
+use mathlib.Core.Path.{_≡_, refl, sym, ap, _∙_, subst}
+use mathlib.Core.Logic.{_⊎_, inl, inr, ⊎-elim}
+use mathlib.Core.List.{List, _∷_, List·Memᴰ, List·Memᴰ·cases-cons}
+use Prim.Native.Nat.{ℕ, _≤_}
+use native.Mathlib.Omega.{arith}
+use Rattle.theory.specs.Array.{Op, Ans}
+use Rattle.theory.specs.Order.{Entry}
+use Rattle.theory.specs.Machine.{Grid, Link, Stage, busy, Mem, Next, go, end, Turn, nextLane, stepped}
+use Rattle.theory.specs.Standing.{After, settledAt, settled}
+use Rattle.theory.specs.OrderLaws.{valueIn, writtenIn}
+use Rattle.theory.specs.World.{World, Swapped}
+use Rattle.theory.specs.Claims.{Writes}
+use Rattle.theory.specs.Inv.{StageOk, BusyOk, Inv}
+use Rattle.theory.specs.Log.{turned, Pre, pre-keep, log-go, log-end}
+use Rattle.theory.specs.Calm.{Own, complete-inv, quiet-frame, still-cell}
+
+-- the invariant after the turn t, with some order
+unfoldable pub Kept : Grid → (ℕ → Link) → World → ℕ → Op → ℕ → Turn → (ℕ → ℕ) → Type 0
+Kept G oldLink W q o i t used = (log : List Entry) × Inv G oldLink (record { w = stepped (W .w) q o i t; log = log; used = used })
+
+module _ {G : Grid} {oldLink : ℕ → Link} {W : World} (I : Inv G oldLink W) (q : ℕ) {o : Op} {i : ℕ} {g : Stage} (e : W .w .lane q ≡ busy o i g) where
+  pub busyOk : BusyOk G oldLink W q o i g
+  busyOk = rw e at (I .lanes q)
+
+  pub own-counts : (settledAt g (W .w .mem .inForce q) ≤ W .w .mem .inForce q) × (W .w .mem .inForce q ≤ W .used q)
+  own-counts = rw e at (I .counts q)
+
+  -- a step that touches neither counts nor marks
+  pub own-same : (M : Mem) → ((r : ℕ) → M .inForce r ≡ W .w .mem .inForce r) → ((r n : ℕ) → M .marks r n ≡ W .w .mem .marks r n) → (nx : Next)
+      → settled (nextLane o i nx) (W .w .mem .inForce q) ≡ settledAt g (W .w .mem .inForce q) → Own I q e M (W .used) nx
+  own-same M hc hm nx hs = record {
+    inForce = λ r ne. hc r;
+    marks = λ r n ne. hm r n;
+    usedOther = λ r ne. refl;
+    up = omega arith;
+    rise = rw (hc q) (omega arith);
+    kept = λ n h. hm q n;
+    counts = rw (hc q) (omega (arith, own-counts .0), own-counts .1);
+    places = λ n j hj hn h. I .places q n j hj hn (sym (hm q n) ∙ h);
+  }
+
+  abbrev pub redrawn : (ℕ → ℕ) → Mem
+  redrawn d = record { reading = W .w .mem .reading; link = W .w .mem .link; inForce = W .w .mem .inForce; drawn = d; marks = W .w .mem .marks }
+
+  -- an order for this call that changes nothing in the array
+  pub record Mild (log : List Entry) : Type 0 where
+    pub pre : Pre G oldLink W log
+    pub more : (z : Entry) → List·Memᴰ z (W .log) → List·Memᴰ z log
+    pub less : (z : Entry) → List·Memᴰ z log → List·Memᴰ z (W .log) ⊎ (z .began ≡ W .w .since q)
+    pub same : (j : ℕ) → writtenIn log j ≡ writtenIn (W .log) j
+    pub vals : (j : ℕ) → valueIn (G .f) log j ≡ valueIn (G .f) (W .log) j
+
+  pub mild-keep : Mild (W .log)
+  mild-keep = record { pre = pre-keep I; more = λ z m. m; less = λ z m. inl m; same = λ j. refl; vals = λ j. refl }
+
+  pub less-cons : (x : Entry) → x .began ≡ W .w .since q → (z : Entry) → List·Memᴰ z (x ∷ W .log) → List·Memᴰ z (W .log) ⊎ (z .began ≡ W .w .since q)
+  less-cons x k z m = ⊎-elim (λ (h : z ≡ x). inr (ap (λ (y : Entry). y .began) h ∙ k)) (λ (h : List·Memᴰ z (W .log)). inl h) (List·Memᴰ·cases-cons m)
+
+  module _ (d : ℕ → ℕ) (log : List Entry) (L : Mild log) where
+    pub go-quiet : (g′ : Stage) → After g → After g′ → settledAt g′ (W .w .mem .inForce q) ≡ settledAt g (W .w .mem .inForce q)
+        → StageOk G oldLink (turned W q o i (redrawn d) (W .used) (go g′) log) q o i g′ → Inv G oldLink (turned W q o i (redrawn d) (W .used) (go g′) log)
+    go-quiet g′ a a′ hs h = complete-inv I q e (redrawn d) (W .used) (go g′) log O
+        (quiet-frame I q e (redrawn d) (W .used) (go g′) log O (record { more = L .more; less = L .less; same = L .same; link = λ j t. refl }))
+        (record { proc = busyOk .proc; cell = busyOk .cell; past = omega (arith, busyOk .past); at = h })
+        (λ j. still-cell I q e (redrawn d) (W .used) (go g′) log O j (record { same = L .same j; vals = L .vals j; link = refl; reading = refl; hold = λ v t s. (s .0, s .1, a′); from = λ v s. (s .0, s .1, a) }))
+        (log-go q e (redrawn d) (W .used) (L .pre) g′)
+      where
+        O : Own I q e (redrawn d) (W .used) (go g′)
+        O = own-same (redrawn d) (λ r. refl) (λ r n. refl) (go g′) hs
+
+    pub end-quiet : (a : Ans) (t : ℕ) → settledAt g (W .w .mem .inForce q) ≡ W .w .mem .inForce q → ((v : ℕ) → Writes o v → Swapped G oldLink W i)
+        → List·Memᴰ (record { at = t; began = W .w .since q; who = q; op = o; cell = i; ans = a }) log
+        → Inv G oldLink (turned W q o i (redrawn d) (W .used) (end a) log)
+    end-quiet a t hs nw m = complete-inv I q e (redrawn d) (W .used) (end a) log O
+        (quiet-frame I q e (redrawn d) (W .used) (end a) log O (record { more = L .more; less = L .less; same = L .same; link = λ j t. refl }))
+        tt
+        (λ j. still-cell I q e (redrawn d) (W .used) (end a) log O j (record { same = L .same j; vals = L .vals j; link = refl; reading = refl; hold = λ v u s. absurd (nw v (s .0) (subst (λ (x : ℕ). W .w .mem .link x ≡ oldLink x) (sym (s .1)) u)); from = λ v s. absurd s }))
+        (log-end q e (redrawn d) (W .used) (L .pre) a t m)
+      where
+        O : Own I q e (redrawn d) (W .used) (end a)
+        O = own-same (redrawn d) (λ r. refl) (λ r n. refl) (end a) (sym hs)

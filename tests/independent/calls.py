@@ -1,0 +1,142 @@
+"""Call vectors: reads them on standard input and prints answer, state and memories after each.
+
+The format is described in tests/CALLS.md.
+"""
+
+import struct
+import sys
+from collections import namedtuple
+
+import grid
+from state import IDLE, LANES, Lane, Memories, Op, State
+
+CALLS = ("open", "begin", "step", "hour")
+BEGIN_KINDS = {1: "read", 2: "write", 3: "asked"}
+STAGES = (
+    None,
+    ("read", "link"), ("read", "marks"), ("read", "dir"), ("read", "mark"),
+    ("read", "reading"),
+    ("asked", "link"), ("asked", "marks"), ("asked", "dir"), ("asked", "mark"),
+    ("write", "store"), ("write", "link"), ("write", "marks"), ("write", "dir"),
+    ("write", "mark"), ("write", "take"), ("write", "note"), ("write", "tomb"),
+    ("write", "put"), ("write", "force"), ("write", "swap"), ("write", "back"),
+)
+STAGE_NUMBER = {name: number for number, name in enumerate(STAGES)}
+HEAD = struct.Struct("<10Q")     # call, a, b, c, d, then p, m, first, step, top
+LANE = struct.Struct("<9Q")
+MEMORY = struct.Struct("<3Q")    # length, fill, exceptions
+PAIR = struct.Struct("<2Q")
+IDLE_WORDS = bytes(LANE.size)
+
+Vector = namedtuple("Vector", "call args state mem")
+
+
+class Lent:
+    """A lent memory: a fill word, and the words that differ from it."""
+
+    def __init__(self, length, fill, words=()):
+        self.length, self.fill, self.words = length, fill, dict(words)
+
+    def __len__(self):
+        return self.length
+
+    def __getitem__(self, index):
+        return self.words.get(index, self.fill)
+
+    def __setitem__(self, index, word):
+        self.words[index] = word
+
+    def exceptions(self):
+        return sorted((i, w) for i, w in self.words.items() if w != self.fill)
+
+
+# --- Words of a lane ---------------------------------------------------------
+
+def lane_words(lane):
+    op = lane.op
+    if op is None:
+        return lane.marks, lane.drawn, lane.steps, 0, 0, 0, 0, 0, 0
+    return (lane.marks, lane.drawn, lane.steps, STAGE_NUMBER[op.kind, op.stage],
+            op.cell, op.value, op.link, op.place, op.start + op.stored * 2**32)
+
+
+def lane_of(marks, drawn, steps, stage, cell, value, link, place, start):
+    if stage == 0:
+        return Lane(marks, drawn, steps, None)
+    kind, name = STAGES[stage]
+    stored, start = divmod(start, 2**32)
+    return Lane(marks, drawn, steps,
+                Op(kind, name, cell, value, link, place, start, bool(stored)))
+
+
+# --- A vector as bytes ---------------------------------------------------------
+
+def pack(vector):
+    state = vector.state
+    parts = [HEAD.pack(CALLS.index(vector.call), *vector.args, *state[:5])]
+    for lane in state.lanes:
+        parts.append(IDLE_WORDS if lane == IDLE else LANE.pack(*lane_words(lane)))
+    for memory in vector.mem:
+        pairs = memory.exceptions()
+        parts.append(MEMORY.pack(len(memory), memory.fill, len(pairs)))
+        parts.extend(PAIR.pack(*pair) for pair in pairs)
+    return b"".join(parts)
+
+
+def unpack(data, at):
+    """The vector that begins at a byte, and where the next one begins."""
+    call, a, b, c, d, *numbers = HEAD.unpack_from(data, at)
+    at += HEAD.size
+    lanes = []
+    for _ in range(LANES):
+        chunk = data[at:at + LANE.size]
+        lanes.append(IDLE if chunk == IDLE_WORDS else lane_of(*LANE.unpack(chunk)))
+        at += LANE.size
+    memories = []
+    for _ in Memories._fields:
+        length, fill, count = MEMORY.unpack_from(data, at)
+        at += MEMORY.size
+        end = at + PAIR.size * count
+        memories.append(Lent(length, fill, PAIR.iter_unpack(data[at:end])))
+        at = end
+    state = State(*numbers, tuple(lanes))
+    return Vector(CALLS[call], (a, b, c, d), state, Memories(*memories)), at
+
+
+def vectors_in(data):
+    at = 0
+    while at < len(data):
+        vector, at = unpack(data, at)
+        yield vector
+
+
+# --- The call and what is printed ---------------------------------------------
+
+def call(vector):
+    """The answer and the state after. Memories are changed in place."""
+    a, b, c, d = vector.args
+    if vector.call == "open":
+        return grid.open_grid(a, b, c, d, vector.mem)
+    if vector.call == "begin":
+        return grid.begin(vector.state, a, BEGIN_KINDS[b], c, d)
+    if vector.call == "step":
+        return grid.step(vector.state, a, vector.mem)
+    return grid.hour_summary(vector.state, a, vector.mem)
+
+
+def printed(vector):
+    """The six lines of one vector: answer, state, four memories."""
+    answer, after = call(vector)
+    numbers = list(after[:5])
+    for lane in after.lanes:
+        numbers.extend(lane_words(lane))
+    lines = [" ".join(map(str, answer)), " ".join(map(str, numbers))]
+    for name, memory in zip(Memories._fields, vector.mem):
+        pairs = "".join(f" {i}:{w}" for i, w in memory.exceptions())
+        lines.append(f"{name} {len(memory)}{pairs}")
+    return "\n".join(lines) + "\n"
+
+
+if __name__ == "__main__":
+    for each in vectors_in(sys.stdin.buffer.read()):
+        sys.stdout.write(printed(each))

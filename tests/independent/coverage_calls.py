@@ -1,0 +1,100 @@
+"""What the fixed vectors reach: each stage's outcomes, each call's refusals. Fails if one is missing.
+
+It also looks whether each vector keeps what tests/CALLS.md promises of it.
+"""
+
+import sys
+from collections import Counter
+
+import calls
+import vectors
+from made import MOST_LENGTHS
+from state import lengths_fit, state_fits
+
+# Stages that hold a value, a link, a place, a start, the flag; all but 0 hold a cell.
+HOLDS_VALUE = {10}
+HOLDS_LINK = {2, 3, 4, 7, 8, 9, 12, 13, 14, 15, 16, 17, 18, 19, 20}
+HOLDS_PLACE = set(range(15, 22))
+HOLDS_START = {4, 9, 14, 16}
+HOLDS_FLAG = {15, 16}
+
+# Stage numbers, and what a step from them can do once states, lengths and process are in order.
+ENDS = (1, 2, 4, 5, 6, 7, 9, 14, 20, 21)
+GOES = (1, 2, 3, 4, 6, 7, 8, 10, 11, 12, 13, 14, 15, 16, 17, 18, 19, 20)
+NINE = (1, 2, 3, 4, 6, 7, 8, 9, 10, 11, 12, 13, 14, 15, 16, 17, 18, 19, 20)
+REFUSALS = {"open": (1, 2, 3), "begin": (9, 4, 6, 5), "step": (9, 8, 4, 7),
+            "hour": (9, 8, 10, 5)}
+EXPECTED = (
+    [f"stage {n}: ends" for n in ENDS] + [f"stage {n}: goes on" for n in GOES]
+    + [f"stage {n}: 9 (word, draw or new number)" for n in NINE]
+    + [f"{call}: refused {n}" for call, numbers in REFUSALS.items() for n in numbers]
+    + ["hour: 9 (word)", "hour: hour", "open: open", "begin: begun",
+       "a large grid's step", "a lane at or above p that is not idle", "8 and 4 at once",
+       "10 and 5 at once", "6 and 5 at once", "9 (state) and 8 at once", "1 and 3 at once"]
+)
+
+
+def promised(vector):
+    """Does the vector keep the limits of tests/CALLS.md?"""
+    good = all(number < 2**32 for number in vector.args + vector.state[:5])
+    for lane in vector.state.lanes:
+        marks, drawn, steps, stage, cell, value, link, place, start = calls.lane_words(lane)
+        flag, start = divmod(start, 2**32)
+        good &= marks < 2**32 and drawn < 2**8 and steps < 2**8
+        for word, limit, stages in ((cell, 2**32, range(1, 22)), (value, 2**32, HOLDS_VALUE),
+                                    (link, 2**64, HOLDS_LINK), (place, 2**64, HOLDS_PLACE),
+                                    (start, 2**32, HOLDS_START), (flag, 2, HOLDS_FLAG)):
+            good &= word < limit if stage in stages else word == 0
+    for memory, most, limit in zip(vector.mem, MOST_LENGTHS, (2**32, 2**64, 2**32, 2**32)):
+        good &= len(memory) <= most and memory.fill < limit
+        good &= all(i < len(memory) and w < limit for i, w in memory.exceptions())
+    return good
+
+
+def look(vector, seen):
+    state, mem, first = vector.state, vector.mem, vector.args[0]
+    fits = vector.call != "open" and state_fits(state)
+    right = lengths_fit(state.p, state.m, mem)
+    answer, _ = calls.call(vector)
+    name = answer[0]
+    in_order = fits and right and (vector.call != "step" or first < state.p
+                                   and state.lanes[first].op is not None)
+    if vector.call == "step" and in_order:
+        stage = calls.lane_words(state.lanes[first])[3]
+        what = {"going": "goes on", "refused": "9 (word, draw or new number)"}.get(name, "ends")
+        seen[f"stage {stage}: {what}"] += 1
+        seen["a large grid's step"] += state.m > 1_000
+    elif vector.call == "hour" and fits and right and answer == ("refused", 9):
+        seen["hour: 9 (word)"] += 1
+    else:
+        seen[f"{vector.call}: {' '.join(map(str, answer)) if name == 'refused' else name}"] += 1
+    beyond = state.lanes[state.p:] if state.p <= 16 else ()
+    seen["a lane at or above p that is not idle"] += fits and any(lane.op for lane in beyond)
+    seen["9 (state) and 8 at once"] += vector.call == "step" and not fits and not right
+    if answer == ("refused", 8) and vector.call == "step":
+        seen["8 and 4 at once"] += first >= state.p
+    if answer == ("refused", 10):
+        seen["10 and 5 at once"] += first >= state.m // 4
+    if answer == ("refused", 6):
+        seen["6 and 5 at once"] += vector.args[2] >= state.m
+    if answer == ("refused", 1):
+        seen["1 and 3 at once"] += not lengths_fit(first, vector.args[1], mem)
+
+
+def main():
+    count = int(sys.argv[1]) if len(sys.argv) > 1 else 20_000
+    seen = Counter()
+    for data in vectors.stream(vectors.FIXED_SEED, count):
+        vector, _ = calls.unpack(data, 0)
+        if not promised(vector) or calls.pack(vector) != data:
+            sys.exit(f"a vector that breaks a promise of tests/CALLS.md: {vector}")
+        look(vector, seen)
+    for name in EXPECTED:
+        print(f"{seen[name]:9} {name}")
+    missing = [name for name in EXPECTED if not seen[name]]
+    print(f"{count} vectors, {len(EXPECTED)} kinds of event, {len(missing)} missing {missing or ''}")
+    sys.exit(bool(missing))
+
+
+if __name__ == "__main__":
+    main()

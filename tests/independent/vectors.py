@@ -1,0 +1,191 @@
+"""A seeded maker of call vectors: `vectors.py --seed S --count N > FILE`. The format is in tests/CALLS.md."""
+
+import argparse
+import random
+import sys
+
+import calls
+import grid
+from calls import Lent, Vector
+from made import MOST_LENGTHS, a_state, a_word, aim, memories, settle_cells, sizes, u32
+from state import (CLOSED, LANES, PLACE_HELD, Memories, lengths, link_to, place_of, process_of,
+                   with_lane)
+
+FIXED_SEED = 20_260_102
+BLOCK = 20  # vectors made from one random stream
+NUMBER_OF = {kind: number for number, kind in calls.BEGIN_KINDS.items()}
+
+
+# --- Faults --------------------------------------------------------------------
+
+def other_lengths(rng, mem):
+    """One memory, or two, of another length."""
+    mem = list(mem)
+    for _ in range(rng.choice((1, 1, 1, 2))):
+        k = rng.randrange(4)
+        old, n = mem[k], len(mem[k])
+        n = rng.choice((n - 1, n - 1, n + 1, n + 1, 0, n + 17, n // 2, 2 * n, len(mem[k - 1])))
+        n = min(max(n, 0), MOST_LENGTHS[k])
+        mem[k] = Lent(n, old.fill, ((i, w) for i, w in old.words.items() if i < n))
+    return Memories(*mem)
+
+
+def damaged(rng, state, p, m, q):
+    """One number of the state at its limit or past it."""
+    total = 4 * m + 2 * p
+    if rng.random() < 0.25:
+        field, words = rng.choice((
+            ("p", (0, 16, 17, p + 1, 256 + p, 2**32 - 1)),
+            ("m", (0, 65_536, 65_537, m + 1, 2**16 + m, 2**32 - 1)),
+            ("top", (total, total + 1, total + 1, 2**32 - 1, 2**31))))
+        return state._replace(**{field: u32(rng.choice(words))})
+    r = rng.choice((q, q, rng.randrange(p), rng.randrange(LANES)))
+    return with_lane(state, r, damaged_lane(rng, state.lanes[r], p, m))
+
+
+def damaged_lane(rng, lane, p, m):
+    most = 2 * m + 1
+    shape = rng.randrange(6)
+    if shape == 0:
+        return lane._replace(marks=rng.choice((most, most + 1, most + 1, 2**32 - 1)))
+    if shape == 1:
+        return lane._replace(drawn=rng.choice((17, 18, 18, 255)))
+    if shape == 2:
+        return lane._replace(steps=rng.choice((0, 1, 10, 11, 11, 255)))
+    op = lane.op
+    if op and shape == 3:
+        return lane._replace(op=op._replace(cell=rng.choice((m, m, m + 1, 2**16 + m, 2**32 - 1))))
+    if op and op.stage in PLACE_HELD and (shape == 4 or not op.link):
+        places = (most, most + 1, most + 1, 2**32, 2**32 + 1, 2**50, 2**64 - 1)
+        return lane._replace(op=op._replace(place=rng.choice(places)))
+    if op and op.link:
+        owner, place = process_of(op.link), place_of(op.link)
+        link = rng.choice((link_to(p, place), link_to(p + 256, place), link_to(16_383, place),
+                           link_to(owner, most), link_to(owner, most + 1),
+                           link_to(owner, 2**32 + 1), link_to(owner, 2**50 - 1)))
+        return lane._replace(op=op._replace(link=link))
+    return lane
+
+
+def a_process(rng, p, q):
+    return u32(rng.choice((q,) * 16 + (rng.randrange(p), p, p, p + 1, 16, 255, 256 + q, 2**16 + q,
+                                       2**32 - 1)))
+
+
+def spoil(rng, state, mem, q):
+    """Sometimes a fault, sometimes several."""
+    p, m = state.p, state.m
+    for _ in range(rng.choice((0, 0, 0, 1, 2))):
+        state = damaged(rng, state, p, m, q)
+    if rng.random() < 0.12:
+        mem = other_lengths(rng, mem)
+    return state, mem
+
+
+# --- The calls -----------------------------------------------------------------
+
+def open_vector(rng):
+    p = rng.choice((0, 1, 2, 15, 16, 16, 17, 18, 256, 257, 2**16 + 1, 2**32 - 1))
+    m = rng.choice((0, 1, 2, 8, 8, 65_535, 65_536, 65_537, 2**16 + 8, 2**32 - 1))
+    right = lengths(min(max(p, 1), 16), min(max(m, 1), 65_536))
+    mem = Memories(*(Lent(n, a_word(rng, 8), {rng.randrange(n): 5}) for n in right))
+    if rng.random() < 0.5:
+        mem = other_lengths(rng, mem)
+    state = CLOSED if rng.random() < 0.8 else a_state(rng, 2, 2)[0]
+    args = p, m, rng.getrandbits(32), rng.choice((0, rng.getrandbits(32)))
+    return Vector("open", args, state, mem)
+
+
+def begin_vector(rng):
+    p, m = sizes(rng)
+    state, q = a_state(rng, p, m, busy=0.3)
+    state, mem = spoil(rng, state, memories(rng, p, m), q)
+    cell = rng.choice((0, m - 1, m - 1, m, m + 1, 2**16, 2**16 + m - 1, 2**32 - 1))
+    args = a_process(rng, p, q), rng.choice((1, 2, 3)), u32(cell), a_word(rng, m)
+    return Vector("begin", args, state, mem)
+
+
+def step_vector(rng, stage=None):
+    """A step from any state; the stages come in turn."""
+    p, m = sizes(rng)
+    busy = rng.choice((0, 0.2, 0.8))
+    state, q = a_state(rng, p, m, busy, stage if rng.random() < 0.96 else None)
+    mem = memories(rng, p, m, state)
+    aim(rng, state, q, mem)
+    state, mem = spoil(rng, state, mem, q)
+    process = a_process(rng, p, q) if rng.random() < 0.3 else q
+    return Vector("step", (process, 0, 0, 0), state, mem)
+
+
+def hour_vector(rng):
+    p, m = sizes(rng)
+    if rng.random() < 0.8:
+        m = rng.choice((4, 4, 5, 7, 8, 8, 11, 12))
+    state, q = a_state(rng, p, m, busy=rng.choice((0, 0, 0, 0, 0.3)))
+    hours = m // 4
+    hour = rng.choice((0, 0, max(hours - 1, 0), max(hours - 1, 0), hours, hours + 1, 2**30,
+                       2**32 - 1))
+    mem = memories(rng, p, m, state)
+    if rng.random() < 0.8 and hour < hours:
+        settle_cells(rng, state, hour, mem)
+    if rng.random() < 0.5:
+        state, mem = spoil(rng, state, mem, q)
+    return Vector("hour", (hour, 0, 0, 0), state, mem)
+
+
+def run_vectors(rng, count):
+    """Successive calls of one run from open: each old word of its own."""
+    p, m = rng.choice((1, 2, 2, 3)), rng.choice((2, 3, 4, 8))
+    mem = memories(rng, p, m)
+    _, state = grid.open_grid(p, m, a_word(rng, m), rng.choice((0, 1)), mem)
+    skip = rng.randrange(80)
+    for at in range(skip + count):
+        q = rng.randrange(p)
+        vector = Vector("step", (q, 0, 0, 0), state, mem)
+        if state.lanes[q].op is None:
+            kind = rng.choice(("read", "asked", "write", "write", "write"))
+            args = q, NUMBER_OF[kind], rng.randrange(m), a_word(rng, m)
+            vector = Vector("begin", args, state, mem)
+        if at >= skip:
+            copy = Memories(*(Lent(len(x), x.fill, x.words) for x in mem))
+            yield vector._replace(mem=copy)
+        _, state = calls.call(vector)
+
+
+def block(seed, number):
+    """Twenty vectors from a stream of their own."""
+    rng = random.Random(f"{seed} block {number}")
+    if number % 10 == 0:
+        yield from run_vectors(rng, BLOCK)
+        return
+    for k in range(BLOCK):
+        shape = rng.random()
+        if shape < 0.06:
+            yield open_vector(rng)
+        elif shape < 0.16:
+            yield begin_vector(rng)
+        elif shape < 0.34:
+            yield hour_vector(rng)
+        else:
+            yield step_vector(rng, 1 + (BLOCK * number + k) % 21)
+
+
+def stream(seed, count):
+    """The first vectors of a seed, packed."""
+    for number in range(-(-count // BLOCK)):
+        for k, vector in enumerate(block(seed, number)):
+            if BLOCK * number + k < count:
+                yield calls.pack(vector)
+
+
+def main():
+    parser = argparse.ArgumentParser(description=__doc__)
+    parser.add_argument("--seed", default=str(FIXED_SEED))
+    parser.add_argument("--count", type=int, default=20_000)
+    options = parser.parse_args()
+    for data in stream(options.seed, options.count):
+        sys.stdout.buffer.write(data)
+
+
+if __name__ == "__main__":
+    main()
