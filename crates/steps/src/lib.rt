@@ -5,7 +5,7 @@ ghost use Rattle.lanes.specs.Ranges.{laneFits, sizesFit};
 ghost use Rattle.steps.specs.Memory.{memory};
 ghost use Rattle.steps.specs.Steps.{goes, readTurn, askedTurn, turnOf};
 
-mod look;
+pub mod look;
 pub mod store;
 mod write;
 

@@ -1,0 +1,101 @@
+-- Proofs: one outcome, and harmless refusals.
+-- Assumes nothing.
+use Prim.Native.Nat.{ℕ}
+use mathlib.Core.Path.{_≡_, refl, sym, ap, _∙_}
+use mathlib.Core.Bool.{Bool, true, false}
+use mathlib.Core.List.{List, [], _∷_}
+use native.Mathlib.Omega.{arith}
+use lib.Seq.{set-getD}
+use Rattle.refusals.specs.Orders.{Rule, orders, pick}
+use Rattle.refusals.specs.declared.Refusal.{Refusal}
+use Rattle.refusals.specs.declared.Refusal.the-variants as Refusal
+use Rattle.lanes.specs.declared.Lane.{Lane}
+use Rattle.lanes.specs.declared.State.{State}
+use Rattle.lanes.specs.Ranges.{rest, laneOf, stateFits}
+use Rattle.steps.specs.declared.Next.{Next}
+use Rattle.steps.specs.declared.Next.the-variants as Next
+use Rattle.steps.specs.Memory.{Memory}
+use Rattle.grid.specs.declared.Ask.{Ask}
+use Rattle.grid.specs.declared.Acted.{Acted}
+use Rattle.grid.specs.declared.Answer.{Answer}
+use Rattle.grid.specs.declared.Answer.the-variants as Answer
+use Rattle.grid.specs.declared.Opening.{Opening}
+use Rattle.grid.specs.declared.Opening.the-variants as Opening
+use Rattle.grid.specs.declared.Verdict.{Verdict}
+use Rattle.grid.specs.declared.Verdict.the-variants as Verdict
+use Rattle.grid.specs.Calls.{openingOf, openedAs, refusedAs, beginRefusals, opOf, begunOf, settled, steppedAs, answerOf, verdictOf, effectOf, outcome, outcomeAs, sizesOf, seenBy, Outcome}
+use Rattle.claims.specs.Claims.{OneOpening, OneBeginning, OneStep, RefusedOpen, ClosedBegin, ClosedStep, RefusedBegin, RefusedStep, closed}
+
+pub one-opening : OneOpening
+one-opening p m first step mem r r′ e e′ = e ∙ sym e′
+
+pub one-beginning : OneBeginning
+one-beginning s q a r r′ e e′ = e ∙ sym e′
+
+pub one-step : OneStep
+one-step s q mem r r′ after after′ e e′ =
+    (ap (λ (x : Outcome). x .stepped) (e ∙ sym e′), ap (λ (x : Outcome). x .memory) (e ∙ sym e′))
+
+pub refused-open-is-closed : RefusedOpen
+refused-open-is-closed p m first step mem r = by (openingOf p m mem)
+  where
+    by : (o : Opening) → openedAs p m first step o .opening ≡ Opening.Refused r → openedAs p m first step o .state ≡ closed
+    by Opening.Open h = absurd (let y : _≡_ {A = ℕ} 0 1 = cc in omega arith)
+    by (Opening.Refused x) h = refl
+
+-- a lane put back where it was
+pub put-back : (s : State) (q : ℕ) → settled s q (laneOf s q) (s .top) ≡ s
+put-back s q = ap (λ (l : List Lane). record { p = s .p; m = s .m; first = s .first; step = s .step; top = s .top; lanes = l }) (set-getD (s .lanes) q rest)
+
+-- a call's acts: refused, and the lane and the top are as they were; or not refused
+data Acts (l : Lane) (top : ℕ) : Acted → Type 0 where
+  refuses : (r : Refusal) → Acts l top (refusedAs l top r)
+  works : (b : Acted) → ((r : Refusal) → b .answer ≡ Answer.Refused r → ⊥) → Acts l top b
+
+harmless-by : (s : State) (q : ℕ) (b : Acted) → Acts (laneOf s q) (s .top) b → (r : Refusal) → b .answer ≡ Answer.Refused r
+    → steppedAs s q b .state ≡ s
+harmless-by s q b (refuses x) r h = put-back s q
+harmless-by s q b (works c k) r h = absurd (k r h)
+
+orders-act : (l : Lane) (top : ℕ) (rules : List Rule) (b : Acted) → ((r : Refusal) → b .answer ≡ Answer.Refused r → ⊥)
+    → Acts l top (orders (refusedAs l top) rules b)
+orders-act l top [] b k = works b k
+orders-act l top (x ∷ xs) b k = by (x .when) (orders-act l top xs b k)
+  where
+    by : (y : Bool) → Acts l top (orders (refusedAs l top) xs b) → Acts l top (pick y (refusedAs l top (x .gives)) (orders (refusedAs l top) xs b))
+    by true later = refuses (x .gives)
+    by false later = later
+
+begun-acts : (fits : Bool) (p m top q : ℕ) (l : Lane) (a : Ask) → Acts l top (begunOf fits p m top q l a)
+unfolding begunOf
+begun-acts fits p m top q l a =
+    orders-act l top (beginRefusals fits p m q l a)
+    (record { lane = record { marks = l .marks; drawn = l .drawn; steps = 0; op = opOf a }; top = top; answer = Answer.Begun })
+    (λ r h. let y : _≡_ {A = ℕ} 0 1 = cc in omega arith)
+
+pub a-refused-begin-changes-nothing : RefusedBegin
+a-refused-begin-changes-nothing s q a r h =
+    harmless-by s q (begunOf (stateFits s) (s .p) (s .m) (s .top) q (laneOf s q) a)
+    (begun-acts (stateFits s) (s .p) (s .m) (s .top) q (laneOf s q) a) r h
+
+not-refused : (n : ℕ) (nx : Next) (r : Refusal) → answerOf n nx ≡ Answer.Refused r → ⊥
+not-refused n (Next.Going o) r h = let y : _≡_ {A = ℕ} 0 1 = cc in omega arith
+not-refused n (Next.Read v) r h = let y : _≡_ {A = ℕ} 0 1 = cc in omega arith
+not-refused n Next.Written r h = let y : _≡_ {A = ℕ} 0 1 = cc in omega arith
+not-refused n (Next.Asked b) r h = let y : _≡_ {A = ℕ} 0 1 = cc in omega arith
+
+pub a-refused-step-changes-nothing : RefusedStep
+a-refused-step-changes-nothing s q mem r = by (verdictOf (stateFits s) (sizesOf s) q (laneOf s q) (seenBy s q) mem)
+  where
+    by : (v : Verdict) → outcomeAs s q (effectOf (laneOf s q) (s .top) mem v) .stepped .answer ≡ Answer.Refused r
+        → (outcomeAs s q (effectOf (laneOf s q) (s .top) mem v) .stepped .state ≡ s) × (outcomeAs s q (effectOf (laneOf s q) (s .top) mem v) .memory ≡ mem)
+    by (Verdict.Refused x) h = (put-back s q, refl)
+    by (Verdict.Moved ch nx) h = absurd (not-refused (laneOf s q .steps) nx r h)
+
+pub closed-begin : ClosedBegin
+unfolding begunOf
+closed-begin q a = ap (λ (x : State). record { state = x; answer = Answer.Refused Refusal.OutOfRange }) (put-back closed q)
+
+pub closed-step : ClosedStep
+unfolding verdictOf
+closed-step q mem = ap (λ (x : State). outcome (record { state = x; answer = Answer.Refused Refusal.OutOfRange }) mem) (put-back closed q)

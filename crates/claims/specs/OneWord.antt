@@ -1,0 +1,188 @@
+-- Proof: a step changes at most one shared word, and nothing of another lane.
+-- Assumes nothing.
+use Prim.Native.Nat.{ℕ, _+_, _<_}
+use mathlib.Core.Path.{_≡_, refl, sym, ap, _∙_, subst}
+use mathlib.Core.Logic.{_≢_}
+use mathlib.Core.Bool.{Bool, true, false}
+use mathlib.Core.List.{List}
+use native.Mathlib.Decide.{ℕ-discrete}
+use lib.Dec.{ltb}
+use lib.ListN.{length, getD, set, length-set}
+use lib.Seq.{getD-set-same, getD-set-other, set-out}
+use borrow.Author.Tests.{ltb-true, ltb-false}
+use Rattle.numbers.specs.Numbers.{offsetOf}
+use Rattle.lanes.specs.declared.Lane.{Lane}
+use Rattle.lanes.specs.declared.State.{State}
+use Rattle.lanes.specs.Ranges.{rest, laneOf, stateFits}
+use Rattle.steps.specs.declared.Change.{Change}
+use Rattle.steps.specs.declared.Change.the-variants as Change
+use Rattle.steps.specs.declared.Next.{Next}
+use Rattle.steps.specs.declared.Next.the-variants as Next
+use Rattle.steps.specs.Memory.{Memory}
+use Rattle.steps.specs.Changes.{laneAfter, topAfter, memoryAfter}
+use Rattle.grid.specs.declared.Verdict.{Verdict}
+use Rattle.grid.specs.declared.Verdict.the-variants as Verdict
+use Rattle.grid.specs.Calls.{settled, advance, verdictOf, effectOf, outcomeAs, sizesOf, seenBy}
+use Rattle.claims.specs.declared.Word.{Word}
+use Rattle.claims.specs.declared.Word.the-variants as Word
+use Rattle.claims.specs.Words.{wordAt}
+use Rattle.claims.specs.Claims.{Changed, ChangesOneWord}
+use Rattle.claims.specs.Harmless.{put-back}
+
+-- what a new lane of process q leaves as it was, is as it was in every lane
+pub lane-kept : {A : Type 0} (f : Lane → A) (s : State) (q : ℕ) (l : Lane) (t : ℕ) → f l ≡ f (laneOf s q)
+    → (r : ℕ) → f (laneOf (settled s q l t) r) ≡ f (laneOf s r)
+lane-kept f s q l t e r = by (ℕ-discrete r q)
+  where
+    own : (b : Bool) → ltb q (length (s .lanes)) ≡ b → f (getD (set (s .lanes) q l) q rest) ≡ f (getD (s .lanes) q rest)
+    own true h = ap f (getD-set-same (s .lanes) q l rest (ltb-true _ _ h)) ∙ e
+    own false h = ap (λ (x : List Lane). f (getD x q rest)) (set-out (s .lanes) q l (ltb-false _ _ h))
+
+    by : Dec (r ≡ q) → f (getD (set (s .lanes) q l) r rest) ≡ f (getD (s .lanes) r rest)
+    by (yes k) = rw k (own (ltb q (length (s .lanes))) refl)
+    by (no k) = ap f (getD-set-other (s .lanes) q r l rest k)
+
+pub lane-other : (s : State) (q : ℕ) (l : Lane) (t r : ℕ) → r ≢ q → laneOf (settled s q l t) r ≡ laneOf s r
+lane-other s q l t r k = getD-set-other (s .lanes) q r l rest k
+
+same-marks : (nx : Next) (l : Lane) → advance nx l .marks ≡ l .marks
+same-marks (Next.Going o) l = refl
+same-marks (Next.Read v) l = refl
+same-marks Next.Written l = refl
+same-marks (Next.Asked b) l = refl
+
+same-drawn : (nx : Next) (l : Lane) → advance nx l .drawn ≡ l .drawn
+same-drawn (Next.Going o) l = refl
+same-drawn (Next.Read v) l = refl
+same-drawn Next.Written l = refl
+same-drawn (Next.Asked b) l = refl
+
+module _ (s : State) (q : ℕ) (mem : Memory) (nx : Next) where
+  abbrev after : Change → State
+  after ch = settled s q (advance nx (laneAfter ch (laneOf s q))) (topAfter ch (s .top))
+
+  -- the lanes that keep their marks, and the drawn count, where the change leaves them
+  keeps-marks : (ch : Change) → laneAfter ch (laneOf s q) .marks ≡ laneOf s q .marks → (r : ℕ) → laneOf (after ch) r .marks ≡ laneOf s r .marks
+  keeps-marks ch e =
+      lane-kept (λ (l : Lane). l .marks) s q (advance nx (laneAfter ch (laneOf s q))) (topAfter ch (s .top))
+      (same-marks nx (laneAfter ch (laneOf s q)) ∙ e)
+
+  keeps-drawn : (ch : Change) → laneAfter ch (laneOf s q) .drawn ≡ laneOf s q .drawn → laneOf (after ch) q .drawn ≡ laneOf s q .drawn
+  keeps-drawn ch e =
+      lane-kept (λ (l : Lane). l .drawn) s q (advance nx (laneAfter ch (laneOf s q))) (topAfter ch (s .top))
+      (same-drawn nx (laneAfter ch (laneOf s q)) ∙ e) q
+
+  abbrev Others : Change → Word → Type 0
+  Others ch one = (w : Word) → w ≢ one → wordAt (after ch) (memoryAfter ch mem) w ≡ wordAt s mem w
+
+  nothing-else : Others Change.Nothing Word.Top
+  nothing-else (Word.Reading j) h = refl
+  nothing-else (Word.Link j) h = refl
+  nothing-else (Word.Directory j) h = refl
+  nothing-else (Word.Pool j) h = refl
+  nothing-else (Word.Marks r) h = keeps-marks Change.Nothing refl r
+  nothing-else Word.Top h = refl
+
+  reading-only : (i : _) (v : ℕ) → Others (Change.Reading i v) (Word.Reading (i .0))
+  reading-only i v (Word.Reading j) h = getD-set-other (mem .readings) (i .0) j v 0 (λ e. h (ap Word.Reading e))
+  reading-only i v (Word.Link j) h = refl
+  reading-only i v (Word.Directory j) h = refl
+  reading-only i v (Word.Pool j) h = refl
+  reading-only i v (Word.Marks r) h = keeps-marks (Change.Reading i v) refl r
+  reading-only i v Word.Top h = refl
+
+  link-only : (i : _) (x : ℕ) → Others (Change.Link i x) (Word.Link (i .0))
+  link-only i x (Word.Reading j) h = refl
+  link-only i x (Word.Link j) h = getD-set-other (mem .links) (i .0) j x 0 (λ e. h (ap Word.Link e))
+  link-only i x (Word.Directory j) h = refl
+  link-only i x (Word.Pool j) h = refl
+  link-only i x (Word.Marks r) h = keeps-marks (Change.Link i x) refl r
+  link-only i x Word.Top h = refl
+
+  directory-only : (k x : ℕ) → Others (Change.Directory k x) (Word.Directory k)
+  directory-only k x (Word.Reading j) h = refl
+  directory-only k x (Word.Link j) h = refl
+  directory-only k x (Word.Directory j) h = getD-set-other (mem .directory) k j x 0 (λ e. h (ap Word.Directory e))
+  directory-only k x (Word.Pool j) h = refl
+  directory-only k x (Word.Marks r) h = keeps-marks (Change.Directory k x) refl r
+  directory-only k x Word.Top h = refl
+
+  pool-only : (start : ℕ) (n : _) (x : ℕ) → Others (Change.Mark start n x) (Word.Pool (start + offsetOf (n .0)))
+  pool-only start n x (Word.Reading j) h = refl
+  pool-only start n x (Word.Link j) h = refl
+  pool-only start n x (Word.Directory j) h = refl
+  pool-only start n x (Word.Pool j) h = getD-set-other (mem .pool) (start + offsetOf (n .0)) j x 0 (λ e. h (ap Word.Pool e))
+  pool-only start n x (Word.Marks r) h = keeps-marks (Change.Mark start n x) refl r
+  pool-only start n x Word.Top h = refl
+
+  marks-only : (n : ℕ) → Others (Change.Marks n) (Word.Marks q)
+  marks-only n (Word.Reading j) h = refl
+  marks-only n (Word.Link j) h = refl
+  marks-only n (Word.Directory j) h = refl
+  marks-only n (Word.Pool j) h = refl
+  marks-only n (Word.Marks r) h =
+      ap (λ (l : Lane). l .marks)
+      (lane-other s q (advance nx (laneAfter (Change.Marks n) (laneOf s q))) (s .top) r (λ e. h (ap Word.Marks e)))
+  marks-only n Word.Top h = refl
+
+  top-only : (t n : ℕ) → Others (Change.Top t n) Word.Top
+  top-only t n (Word.Reading j) h = refl
+  top-only t n (Word.Link j) h = refl
+  top-only t n (Word.Directory j) h = refl
+  top-only t n (Word.Pool j) h = refl
+  top-only t n (Word.Marks r) h = keeps-marks (Change.Top t n) refl r
+  top-only t n Word.Top h = absurd (h refl)
+
+  lengths : (ch : Change) → (length (memoryAfter ch mem .readings) ≡ length (mem .readings)) × (length (memoryAfter ch mem .links) ≡ length (mem .links))
+      × (length (memoryAfter ch mem .directory) ≡ length (mem .directory)) × (length (memoryAfter ch mem .pool) ≡ length (mem .pool))
+  lengths Change.Nothing = (refl, refl, refl, refl)
+  lengths (Change.Reading i v) = (length-set (mem .readings) (i .0) v, refl, refl, refl)
+  lengths (Change.Link i x) = (refl, length-set (mem .links) (i .0) x, refl, refl)
+  lengths (Change.Directory k x) = (refl, refl, length-set (mem .directory) k x, refl)
+  lengths (Change.Mark start n x) = (refl, refl, refl, length-set (mem .pool) (start + offsetOf (n .0)) x)
+  lengths (Change.Marks n) = (refl, refl, refl, refl)
+  lengths (Change.Top t n) = (refl, refl, refl, refl)
+
+  one : (ch : Change) (w : Word) → Others ch w → (w ≢ Word.Top → laneAfter ch (laneOf s q) .drawn ≡ laneOf s q .drawn)
+      → Changed q s (after ch) mem (memoryAfter ch mem)
+  one ch w h d = record {
+    word = w;
+    others = h;
+    drawn = λ x. keeps-drawn ch (d x);
+    lanes = λ r k. lane-other s q (advance nx (laneAfter ch (laneOf s q))) (topAfter ch (s .top)) r k;
+    p = refl;
+    m = refl;
+    first = refl;
+    step = refl;
+    lent = lengths ch;
+  }
+
+  moved : (ch : Change) → Changed q s (after ch) mem (memoryAfter ch mem)
+  moved Change.Nothing = one Change.Nothing Word.Top nothing-else (λ x. refl)
+  moved (Change.Reading i v) = one (Change.Reading i v) (Word.Reading (i .0)) (reading-only i v) (λ x. refl)
+  moved (Change.Link i x) = one (Change.Link i x) (Word.Link (i .0)) (link-only i x) (λ y. refl)
+  moved (Change.Directory k x) = one (Change.Directory k x) (Word.Directory k) (directory-only k x) (λ y. refl)
+  moved (Change.Mark start n x) = one (Change.Mark start n x) (Word.Pool (start + offsetOf (n .0))) (pool-only start n x) (λ y. refl)
+  moved (Change.Marks n) = one (Change.Marks n) (Word.Marks q) (marks-only n) (λ y. refl)
+  moved (Change.Top t n) = one (Change.Top t n) Word.Top (top-only t n) (λ y. absurd (y refl))
+
+unchanged : (q : ℕ) (s : State) (mem : Memory) → Changed q s s mem mem
+unchanged q s mem = record {
+  word = Word.Top;
+  others = λ w h. refl;
+  drawn = λ h. refl;
+  lanes = λ r h. refl;
+  p = refl;
+  m = refl;
+  first = refl;
+  step = refl;
+  lent = (refl, refl, refl, refl);
+}
+
+pub a-step-changes-one-word : ChangesOneWord
+a-step-changes-one-word s q mem = by (verdictOf (stateFits s) (sizesOf s) q (laneOf s q) (seenBy s q) mem)
+  where
+    by : (v : Verdict) → Changed q s (outcomeAs s q (effectOf (laneOf s q) (s .top) mem v) .stepped .state) mem
+        (outcomeAs s q (effectOf (laneOf s q) (s .top) mem v) .memory)
+    by (Verdict.Refused x) = subst (λ (y : State). Changed q s y mem mem) (sym (put-back s q)) (unchanged q s mem)
+    by (Verdict.Moved ch nx) = moved s q mem nx ch
