@@ -19,8 +19,9 @@ use Rattle.lanes.specs.declared.Op.{Op}
 use Rattle.lanes.specs.declared.Op.the-variants as Op
 use Rattle.lanes.specs.declared.Lane.{Lane}
 use Rattle.lanes.specs.declared.State.{State}
-use Rattle.lanes.specs.Ranges.{rest, laneOf, below, checkFits, stageFits, opFits, laneFits, sizesFit, stateFits}
-use Rattle.lanes.specs.Laws.{and-left, and-right, below-more, sized, lane-ok, sizes-of, lane-of}
+use Rattle.lanes.specs.Ranges.{rest, laneOf, checkFits, stageFits, opFits, sizesFit, stateFits}
+use Rattle.lanes.specs.Laws.{and-right, sized, lane-ok, sizes-of, lane-of}
+use Rattle.lanes.specs.Scan.{Passed, passed-all}
 use Rattle.steps.specs.Memory.{Memory}
 use Rattle.grid.specs.declared.Ask.{Ask}
 use Rattle.grid.specs.declared.Acted.{Acted}
@@ -28,39 +29,13 @@ use Rattle.grid.specs.declared.Stepped.{Stepped}
 use Rattle.grid.specs.Calls.{lengthsFit, begunOf, beginOf, verdictOf, settled, sizesOf, namedIn, namedAt, named, seenBy, Effect, effect, actOf, Outcome, outcome, stepOf, steppedAs, outcomeAs}
 use Rattle.grid.specs.Inner.{laneAt, Judged}
 
--- how far the lanes have been looked at
-abbrev pub Passed : State → ℕ → Bool → Type 0
-Passed t i fits = fits ≡ (sizesFit (t .p) (t .m) (t .top) && below i (λ (q : ℕ). laneFits (t .p) (t .m) (laneOf t q)))
-
-and-true : (b : Bool) → (b && true) ≡ b
-and-true true = refl
-and-true false = refl
-
-and-assoc : (a b c : Bool) → ((a && b) && c) ≡ (a && (b && c))
-and-assoc true b c = refl
-and-assoc false b c = refl
-
-pub loop-start : (t : State) (fits : Bool) → fits ≡ sizesFit (t .p) (t .m) (t .top) → Passed t 0 fits
-unfolding below
-loop-start t fits e = e ∙ sym (and-true (sizesFit (t .p) (t .m) (t .top)))
-
-pub loop-next : (t : State) (i : ℕ) (fits b c : Bool) → Passed t i fits → b ≡ laneFits (t .p) (t .m) (laneOf t i) → c ≡ (fits && b)
-    → Passed t (i + 1) c
-loop-next t i fits b c h e f =
-    f ∙ rw (h, e)
-    (and-assoc (sizesFit (t .p) (t .m) (t .top)) (below i (λ (q : ℕ). laneFits (t .p) (t .m) (laneOf t q))) (laneFits (t .p) (t .m) (laneOf t i))
-    ∙ ap (λ (x : Bool). sizesFit (t .p) (t .m) (t .top) && x) (below-more i (λ (q : ℕ). laneFits (t .p) (t .m) (laneOf t q))))
-
-pub sizes-high : (t : State) (b : Bool) → b ≡ sizesFit (t .p) (t .m) (t .top) → b ≡ true → t .p ≤ mostProcesses
-sizes-high t b e h = sized (t .p) (t .m) (t .top) (sym e ∙ h) .p-high
-
 -- past the last lane in use, the state has been looked at
 pub loop-end : (t : State) (b : Bool) (end i : ℕ) (fits : Bool) → b ≡ sizesFit (t .p) (t .m) (t .top) → end ≡ pick b (t .p) 0 → i ≤ end → end ≤ i
     → Passed t i fits → fits ≡ stateFits t
-loop-end t true end i fits e f low high h =
-    let k : i ≡ t .p = omega arith in
-    h ∙ ap (λ (x : ℕ). sizesFit (t .p) (t .m) (t .top) && below x (λ (q : ℕ). laneFits (t .p) (t .m) (laneOf t q))) k
-loop-end t false end i fits e f low high h = h ∙ rw (← e) refl
+loop-end t b end i fits e f low high h = passed-all t b i fits e is-p h
+  where
+    is-p : b ≡ true → i ≡ t .p
+    is-p x = let k : end ≡ t .p = f ∙ rw x refl in omega arith
 
 -- the process that a lane in its range names is one of the grid's, or 0
 named-in : (p m : ℕ) (c : Check) → 1 ≤ p → checkFits p m c ≡ true → namedIn c < p

@@ -4,8 +4,8 @@ ghost use Rattle.steps.specs.Memory.{memory};
 ghost use Rattle.grid.specs.Calls.{outcome, openOf, beginOf, stepOf};
 
 mod acts;
-mod begins;
-mod opens;
+pub mod begins;
+pub mod opens;
 
 use lanes::Lane;
 use lanes::Op;

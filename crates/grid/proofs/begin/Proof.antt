@@ -4,7 +4,8 @@ use mathlib.Core.Path.{refl}
 use Prim.Native.Nat.{_≤_, _-_}
 use native.Mathlib.Omega.{arith}
 use borrow.Author.Needs.{needs}
-use Rattle.grid.proofs.StateLaws.{Passed, loop-start, loop-next, loop-end, sizes-high, begun-is}
+use Rattle.lanes.specs.Scan.{Passed, passed-none, passed-more, few-lanes}
+use Rattle.grid.proofs.StateLaws.{loop-end, begun-is}
 use Rattle.grid.proofs.begin.Statement.{statement}
 use Rattle.grid.proofs.begin.Tie as tie
 
@@ -27,10 +28,10 @@ sizes-fit-requires : tie.Need-sizes-fit-requires Inv-loop μ-loop
 sizes-fit-requires c κs = search needs
 
 lanes-below-requires : tie.Need-lanes-below-requires Inv-loop μ-loop
-lanes-below-requires c κs = sizes-high (c .before .before .before .args .s) _ (c .sizes-fit .ensures)
+lanes-below-requires c κs = few-lanes (c .before .before .before .args .s) _ (c .sizes-fit .ensures)
 
 loop-holds : tie.Need-loop-holds Inv-loop μ-loop
-loop-holds c = (omega arith, loop-start (c .before .before .before .before .args .s) _ (c .before .sizes-fit .ensures))
+loop-holds c = (omega arith, passed-none (c .before .before .before .before .args .s) _ (c .before .sizes-fit .ensures))
 
 mul-lane-fits : tie.Need-mul-lane-fits Inv-loop μ-loop
 mul-lane-fits c = omega arith
@@ -51,7 +52,7 @@ loop-less : tie.Need-loop-less Inv-loop μ-loop
 loop-less c = omega arith
 
 loop-again : tie.Need-loop-again Inv-loop μ-loop
-loop-again c = (omega arith, loop-next (c .before .before .before .before .before .before .before .before .before .args .s) _ _ _ _ (c .before .before .before .before .loop .inv .1) (c .before .lane-fits .ensures) (c .both .ensures))
+loop-again c = (omega arith, passed-more (c .before .before .before .before .before .before .before .before .before .args .s) _ _ _ _ (c .before .before .before .before .loop .inv .1) (c .before .lane-fits .ensures) (c .both .ensures))
 
 begun-requires : tie.Need-begun-requires Inv-loop μ-loop
 begun-requires c κs = search needs

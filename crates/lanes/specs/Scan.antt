@@ -1,0 +1,42 @@
+-- A state looked at lane by lane: what a loop over the lanes has shown so far, and at its end.
+-- Assumes nothing.
+use mathlib.Core.Path.{_≡_, refl, sym, ap, _∙_}
+use mathlib.Core.Bool.{Bool, true, false, _&&_}
+use Prim.Native.Nat.{ℕ, _+_, _≤_}
+use Rattle.numbers.specs.Numbers.{mostProcesses}
+use Rattle.lanes.specs.declared.State.{State}
+use Rattle.lanes.specs.Ranges.{laneOf, below, laneFits, sizesFit, stateFits}
+use Rattle.lanes.specs.Laws.{below-more, sized}
+
+-- the sizes, and the lanes below i
+abbrev pub Passed : State → ℕ → Bool → Type 0
+Passed s i fits = fits ≡ (sizesFit (s .p) (s .m) (s .top) && below i (λ (q : ℕ). laneFits (s .p) (s .m) (laneOf s q)))
+
+and-true : (b : Bool) → (b && true) ≡ b
+and-true true = refl
+and-true false = refl
+
+and-assoc : (a b c : Bool) → ((a && b) && c) ≡ (a && (b && c))
+and-assoc true b c = refl
+and-assoc false b c = refl
+
+pub passed-none : (s : State) (fits : Bool) → fits ≡ sizesFit (s .p) (s .m) (s .top) → Passed s 0 fits
+unfolding below
+passed-none s fits e = e ∙ sym (and-true (sizesFit (s .p) (s .m) (s .top)))
+
+pub passed-more : (s : State) (i : ℕ) (fits b c : Bool) → Passed s i fits → b ≡ laneFits (s .p) (s .m) (laneOf s i) → c ≡ (fits && b)
+    → Passed s (i + 1) c
+passed-more s i fits b c h e f =
+    f ∙ rw (h, e)
+    (and-assoc (sizesFit (s .p) (s .m) (s .top)) (below i (λ (q : ℕ). laneFits (s .p) (s .m) (laneOf s q))) (laneFits (s .p) (s .m) (laneOf s i))
+    ∙ ap (λ (x : Bool). sizesFit (s .p) (s .m) (s .top) && x) (below-more i (λ (q : ℕ). laneFits (s .p) (s .m) (laneOf s q))))
+
+pub few-lanes : (s : State) (b : Bool) → b ≡ sizesFit (s .p) (s .m) (s .top) → b ≡ true → s .p ≤ mostProcesses
+few-lanes s b e h = sized (s .p) (s .m) (s .top) (sym e ∙ h) .p-high
+
+-- past the last lane in use, the state has been looked at
+pub passed-all : (s : State) (b : Bool) (i : ℕ) (fits : Bool) → b ≡ sizesFit (s .p) (s .m) (s .top) → (b ≡ true → i ≡ s .p) → Passed s i fits
+    → fits ≡ stateFits s
+passed-all s true i fits e f h =
+    h ∙ ap (λ (x : ℕ). sizesFit (s .p) (s .m) (s .top) && below x (λ (q : ℕ). laneFits (s .p) (s .m) (laneOf s q))) (f refl)
+passed-all s false i fits e f h = h ∙ rw (← e) refl

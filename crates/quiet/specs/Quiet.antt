@@ -1,0 +1,61 @@
+-- A grid at rest: no operation under way, and each cell's check run to its end at once.
+-- Assumes nothing.
+use Prim.Native.Nat.{ℕ}
+use mathlib.Core.Bool.{Bool, true, false}
+use mathlib.Core.List.{List}
+use lib.Dec.{ltb}
+use lib.ListN.{getD}
+use Rattle.numbers.specs.Numbers.{mostProcesses, fillOf}
+use Rattle.numbers.specs.declared.Cell.{Cell}
+use Rattle.refusals.specs.Orders.{pick}
+use Rattle.lanes.specs.declared.Check.{Check}
+use Rattle.lanes.specs.declared.Check.the-variants as Check
+use Rattle.lanes.specs.declared.State.{State}
+use Rattle.lanes.specs.Ranges.{laneOf, below, stateFits}
+use Rattle.steps.specs.declared.Found.{Found}
+use Rattle.steps.specs.declared.Found.the-variants as Found
+use Rattle.steps.specs.declared.Got.{Got}
+use Rattle.steps.specs.declared.Got.the-variants as Got
+use Rattle.steps.specs.Memory.{Memory}
+use Rattle.steps.specs.Steps.{check}
+use Rattle.grid.specs.Calls.{idle, namedIn}
+use Rattle.quiet.specs.declared.Scan.{Scan}
+use Rattle.quiet.specs.declared.Scan.the-variants as Scan
+
+-- No operation is under way in any lane below p.
+abbrev pub atRest : State → Bool
+atRest s = below (s .p) (λ (q : ℕ). idle (laneOf s q .op))
+
+-- 9 (state) comes before 10.
+abbrev pub scanOf : State → Scan
+scanOf s = pick (stateFits s) (pick (atRest s) Scan.AtRest Scan.AtWork) Scan.Unfit
+
+-- The marks in force that the next step of a check reads; a process that has no lane has none.
+abbrev pub marksAt : State → ℕ → ℕ
+marksAt s q = pick (ltb q mostProcesses) (laneOf s q .marks) 0
+
+abbrev pub seenIn : State → Check → ℕ
+seenIn s c = marksAt s (namedIn c)
+
+-- One more step of a check that has not ended.
+abbrev pub onward : State → ℕ → List ℕ → List ℕ → List ℕ → Found → Found
+onward s i links directory pool Found.Outside = Found.Outside
+onward s i links directory pool (Found.On c) = check (s .p) (seenIn s c) links directory pool i c
+onward s i links directory pool (Found.NotWritten link) = Found.NotWritten link
+onward s i links directory pool Found.Written = Found.Written
+
+-- The check of cell i, run to its end: four steps at the most.
+unfoldable pub lookedAt : State → ℕ → List ℕ → List ℕ → List ℕ → Found
+lookedAt s i links directory pool =
+    onward s i links directory pool
+    (onward s i links directory pool (onward s i links directory pool (onward s i links directory pool (Found.On Check.Link))))
+
+-- A written cell has its reading, another f(i). No check is still on after four steps.
+abbrev pub readingAs : State → Cell → List ℕ → Found → Got
+readingAs s i readings Found.Outside = Got.Outside
+readingAs s i readings (Found.On c) = Got.Outside
+readingAs s i readings (Found.NotWritten link) = Got.Word (fillOf (s .first) (s .step) (i .0))
+readingAs s i readings Found.Written = Got.Word (getD readings (i .0) 0)
+
+abbrev pub readingAt : State → Cell → Memory → Got
+readingAt s i mem = readingAs s i (mem .readings) (lookedAt s (i .0) (mem .links) (mem .directory) (mem .pool))

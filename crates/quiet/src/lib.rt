@@ -1,0 +1,112 @@
+// A grid at rest: whether no operation is under way, and what each cell then holds.
+ghost use mathlib.Core.Path.{_≡_};
+ghost use Rattle.steps.specs.Memory.{memory};
+ghost use Rattle.quiet.specs.Quiet.{marksAt, seenIn, onward, lookedAt, readingAs, readingAt, scanOf};
+use grid::begins;
+use lanes::Check;
+use lanes::State;
+use numbers::Cell;
+use numbers::PROCESSES;
+use steps::Found;
+use steps::Got;
+
+// What a look at all the lanes shows.
+pub enum Scan {
+    // A number of the state is out of range.
+    Unfit,
+    // Some operation is under way.
+    AtWork,
+    AtRest,
+}
+
+pub fn scan_of(s: State) -> Scan
+    ensures { λ r. ⌜ r ≡ scanOf s ⌝ }
+{
+    let mut fits = lanes::sizes_fit(s.p, s.m, s.top);
+    let end = begins::lanes_below(fits, s.p);
+    let mut calm = true;
+    let mut i: usize = 0;
+    while i < end {
+        let l = s.lanes[i];
+        let o = l.op;
+        fits = begins::both(fits, lanes::lane_fits(s.p, s.m, l));
+        calm = begins::both(calm, begins::idle(o));
+        i = i + 1;
+    }
+    if !fits {
+        return Scan::Unfit;
+    }
+    if calm { Scan::AtRest } else { Scan::AtWork }
+}
+
+// The marks in force of lane q; 0 where there is no such lane.
+fn marks_at(s: State, q: u32) -> u32
+    ensures { λ r. ⌜ r ≡ marksAt s q ⌝ }
+{
+    if q < PROCESSES {
+        let k = q as usize;
+        let l = s.lanes[k];
+        l.marks
+    } else {
+        0
+    }
+}
+
+fn seen_in(s: State, c: Check) -> u32
+    ensures { λ r. ⌜ r ≡ seenIn s c ⌝ }
+{
+    match c {
+        Check::Link => marks_at(s, 0),
+        Check::Marks(w) => marks_at(s, numbers::process_of(w).0),
+        Check::Directory(_) => marks_at(s, 0),
+        Check::Mark(_, _) => marks_at(s, 0),
+    }
+}
+
+// One more step of a check that has not ended.
+fn onward(s: State, i: Cell, links: &[u64], directory: &[u32], pool: &[u32], found: Found) -> Found
+    ensures { λ r. ⌜ r ≡ onward s (i .0) (now (links .entry)) (now (directory .entry)) (now (pool .entry)) found ⌝ }
+{
+    match found {
+        Found::Outside => Found::Outside,
+        Found::On(c) => steps::look::check(s.p, seen_in(s, c), links, directory, pool, i, c),
+        Found::NotWritten(w) => Found::NotWritten(w),
+        Found::Written => Found::Written,
+    }
+}
+
+// The check of cell i, run to its end: four steps at the most.
+pub fn looked_at(s: State, i: Cell, links: &[u64], directory: &[u32], pool: &[u32]) -> Found
+    ensures { λ r. ⌜ r ≡ lookedAt s (i .0) (now (links .entry)) (now (directory .entry)) (now (pool .entry)) ⌝ }
+{
+    let a = onward(s, i, links, directory, pool, Found::On(Check::Link));
+    let b = onward(s, i, links, directory, pool, a);
+    let c = onward(s, i, links, directory, pool, b);
+    onward(s, i, links, directory, pool, c)
+}
+
+fn reading_as(s: State, i: Cell, readings: &[u32], found: Found) -> Got
+    ensures { λ r. ⌜ r ≡ readingAs s i (now (readings .entry)) found ⌝ }
+{
+    match found {
+        Found::Outside => Got::Outside,
+        Found::On(_) => Got::Outside,
+        Found::NotWritten(_) => Got::Word(numbers::fill(s.first, s.step, i)),
+        Found::Written => Got::Word(steps::look::word(readings, i.0 as usize)),
+    }
+}
+
+// The reading of cell i, by the filling rule where it is not written; or that a word of its check lies outside.
+pub fn reading_at(
+    s: State,
+    i: Cell,
+    readings: &[u32],
+    links: &[u64],
+    directory: &[u32],
+    pool: &[u32],
+) -> Got
+    ensures { λ r. ⌜ r ≡ readingAt s i (memory (now (readings .entry)) (now (links .entry)) (now (directory .entry)) (now (pool .entry))) ⌝ }
+{
+    let found = looked_at(s, i, links, directory, pool);
+    reading_as(s, i, readings, found)
+}

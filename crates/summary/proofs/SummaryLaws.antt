@@ -1,0 +1,84 @@
+-- Each case of a summary, as a law of its definition.
+-- Assumes nothing.
+use mathlib.Core.Path.{_≡_, sym, ap, _∙_}
+use mathlib.Core.Bool.{Bool, true, false, not}
+use Prim.Native.Nat.{ℕ, _+_, _*_, _/_, _<_, _≤_}
+use borrow.Author.Tests.{lt-ltb, le-ltb}
+use Rattle.refusals.specs.declared.Refusal.the-variants as Refusal
+use Rattle.lanes.specs.declared.State.{State}
+use Rattle.steps.specs.declared.Got.{Got}
+use Rattle.steps.specs.Memory.{Memory}
+use Rattle.grid.specs.Calls.{lengthsFit}
+use Rattle.quiet.specs.declared.Scan.{Scan}
+use Rattle.quiet.specs.Quiet.{readingAt, scanOf}
+use Rattle.summary.specs.declared.Hour.{Hour}
+use Rattle.summary.specs.declared.Summary.{Summary}
+use Rattle.summary.specs.declared.Summary.the-variants as Summary
+use Rattle.summary.specs.Summary.{greater, outside, wordOf, hourOf, summaryAs, cellAt, quarters, unfit, atWork, summaryOf}
+
+pub second-greater : (a b : ℕ) → a < b → b ≡ greater a b
+second-greater a b h = simp (lt-ltb _ _ h)
+
+pub first-greater : (a b : ℕ) → b ≤ a → a ≡ greater a b
+first-greater a b h = simp (le-ltb _ _ h)
+
+pub hour-is : (a b c d x y z : ℕ) → x ≡ greater a b → y ≡ greater c d → z ≡ greater x y
+    → record { peak = z; mean = (a + b + c + d) / 4 } ≡ hourOf a b c d
+hour-is a b c d x y z e f g = rw (g, e, f)
+
+module _ (a b c d : Got) (p : Bool) (e : p ≡ outside a) where
+  pub first-outside : p ≡ true → Summary.Refused Refusal.OutOfRange ≡ summaryAs a b c d
+  first-outside h = simp (sym e ∙ h)
+
+  module _ (h : p ≡ false) (q : Bool) (f : q ≡ outside b) where
+    pub second-outside : q ≡ true → Summary.Refused Refusal.OutOfRange ≡ summaryAs a b c d
+    second-outside k = simp (sym e ∙ h, sym f ∙ k)
+
+    module _ (i : q ≡ false) (r : Bool) (g : r ≡ outside c) where
+      pub third-outside : r ≡ true → Summary.Refused Refusal.OutOfRange ≡ summaryAs a b c d
+      third-outside k = simp (sym e ∙ h, sym f ∙ i, sym g ∙ k)
+
+      module _ (j : r ≡ false) (s : Bool) (u : s ≡ outside d) where
+        pub fourth-outside : s ≡ true → Summary.Refused Refusal.OutOfRange ≡ summaryAs a b c d
+        fourth-outside k = simp (sym e ∙ h, sym f ∙ i, sym g ∙ j, sym u ∙ k)
+
+        pub none-outside : (w x y z : ℕ) (t : Hour) → s ≡ false → w ≡ wordOf a → x ≡ wordOf b → y ≡ wordOf c → z ≡ wordOf d → t ≡ hourOf w x y z
+            → Summary.Of t ≡ summaryAs a b c d
+        none-outside w x y z t k l m n o v = simp (sym e ∙ h, sym f ∙ i, sym g ∙ j, sym u ∙ k) (ap Summary.Of (v ∙ rw (l, m, n, o)))
+
+pub quarters-are : (s : State) (i : ℕ) (mem : Memory) (a b c d : Got) (r : Summary) → a ≡ readingAt s (cellAt i) mem → b ≡ readingAt s (cellAt (i + 1)) mem
+    → c ≡ readingAt s (cellAt (i + 2)) mem → d ≡ readingAt s (cellAt (i + 3)) mem → r ≡ summaryAs a b c d → r ≡ quarters s i mem
+quarters-are s i mem a b c d r e f g h k = k ∙ rw (e, f, g, h)
+
+module _ (s : State) (h : ℕ) (mem : Memory) (v : Scan) (e : v ≡ scanOf s) (u : Bool) (f : u ≡ unfit v) where
+  pub summary-9 : u ≡ true → Summary.Refused Refusal.OutOfRange ≡ summaryOf s h mem
+  unfolding summaryOf
+  summary-9 k = let x : unfit (scanOf s) ≡ true = ap unfit (sym e) ∙ sym f ∙ k in simp x
+
+  module _ (fine : u ≡ false) (b : Bool) (lent : b ≡ lengthsFit (s .p) (s .m) mem) where
+    fit : unfit (scanOf s) ≡ false
+    fit = ap unfit (sym e) ∙ sym f ∙ fine
+
+    pub summary-8 : not b ≡ true → Summary.Refused Refusal.OtherLengths ≡ summaryOf s h mem
+    unfolding summaryOf
+    summary-8 k = let x : not (lengthsFit (s .p) (s .m) mem) ≡ true = rw (← lent) k in simp (fit, x)
+
+    module _ (right : not b ≡ false) (w : Bool) (g : w ≡ atWork v) where
+      lengths : not (lengthsFit (s .p) (s .m) mem) ≡ false
+      lengths = rw (← lent) right
+
+      pub summary-10 : w ≡ true → Summary.Refused Refusal.AtWork ≡ summaryOf s h mem
+      unfolding summaryOf
+      summary-10 k = let x : atWork (scanOf s) ≡ true = ap atWork (sym e) ∙ sym g ∙ k in simp (fit, lengths, x)
+
+      module _ (still : w ≡ false) where
+        rest : atWork (scanOf s) ≡ false
+        rest = ap atWork (sym e) ∙ sym g ∙ still
+
+        pub summary-5 : s .m / 4 ≤ h → Summary.Refused Refusal.NoSuchCell ≡ summaryOf s h mem
+        unfolding summaryOf
+        summary-5 k = simp (fit, lengths, rest, le-ltb _ _ k)
+
+        pub summary-of : (r : Summary) → h < s .m / 4 → r ≡ quarters s (4 * h) mem → r ≡ summaryOf s h mem
+        unfolding summaryOf
+        summary-of r k x = simp (fit, lengths, rest, lt-ltb _ _ k) x
