@@ -1,0 +1,3 @@
+pub mod Qhs
+pub mod Inner
+pub mod Laws
