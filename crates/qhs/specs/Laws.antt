@@ -1,16 +1,24 @@
 -- What callers may use of numbers in a file and of a file that was read, in place of the definitions' text.
 -- Assumes nothing.
 use mathlib.Core.Path.{_≡_, refl, sym, ap, _∙_}
-use mathlib.Core.Bool.{Bool, true, false, _&&_}
-use mathlib.Core.List.{List}
+use mathlib.Core.Bool.{Bool, true, false, not, _&&_}
+use mathlib.Core.List.{List, [], _∷_}
 use mathlib.Core.Logic.{⊎-elim}
-use Prim.Native.Nat.{ℕ, zero, suc, _+_, _*_, _^_, _<_, _≤_}
+use Prim.Native.Nat.{ℕ, zero, suc, _+_, _*_, _%_, _^_, _<_, _≤_}
 use native.Mathlib.Nat.{pow-zero, pow-succ', not-suc-le-zero, eq-or-lt-of-le}
 use native.Mathlib.Numerals.{add-one}
 use native.Mathlib.Omega.{arith}
-use lib.ListN.{length, getD, drop, List·getD-eq-default}
+use lib.ListN.{length, drop, List·getD-eq-default}
 use lib.Seq.{getD-drop}
-use Rattle.qhs.specs.Qhs.{byteAt, numberAt, each}
+use lib.Dec.{leb}
+use borrow.Author.Tests.{ltb-false, leb-true, eqb-true, not-false}
+use Rattle.numbers.specs.Numbers.{mostProcesses, mostCells}
+use Rattle.refusals.specs.Orders.{Rule, orders, pick}
+use Rattle.qhs.specs.declared.Header.{Header}
+use Rattle.qhs.specs.declared.Reading.{Reading}
+use Rattle.qhs.specs.declared.Reading.the-variants as Reading
+use Rattle.qhs.specs.Qhs.{headerBytes, recordBytes, mostBytes, mostFileCells, mostKind, byteAt, numberAt, marked, headerOf, recordAt}
+use Rattle.qhs.specs.Qhs.{bodyBytes, recordsIn, each, kindFits, kindsFit, fileRefusals, readOf}
 
 -- Every byte is below 256.
 abbrev pub Bytes : List ℕ → Type 0
@@ -87,3 +95,78 @@ each-fails (suc n) i f h x =
     (λ (e : i ≡ n). rw (← e, x) (and-false (each i f)))
     (λ (e : i < n). rw (each-fails n i f e x))
     (eq-or-lt-of-le (omega arith))
+
+-- ---- a file that was read
+
+-- No refusal of an order holds.
+abbrev None : List Rule → Type 0
+None [] = Unit {0}
+None (r ∷ rs) = (r .when ≡ false) × None rs
+
+past : (rules : List Rule) (d e : Header) (n k : ℕ) → orders Reading.Refused rules (Reading.Schedule e k) ≡ Reading.Schedule d n
+    → None rules × ((d ≡ e) × (n ≡ k))
+past [] d e n k h = (tt, (cc, cc))
+past (r ∷ rs) d e n k h = by (λ y. past rs d e n k y) (r .when) refl h
+  where
+    Later : Type 0
+    Later = orders Reading.Refused rs (Reading.Schedule e k) ≡ Reading.Schedule d n → None rs × ((d ≡ e) × (n ≡ k))
+
+    by : Later → (b : Bool) → r .when ≡ b → pick b (Reading.Refused (r .gives)) (orders Reading.Refused rs (Reading.Schedule e k)) ≡ Reading.Schedule d n
+        → None (r ∷ rs) × ((d ≡ e) × (n ≡ k))
+    by later true x y = absurd (let z : _≡_ {A = ℕ} 0 1 = cc in omega arith)
+    by later false x y = let p = later y in ((x, p .0), p .1)
+
+within : (x high : ℕ) → not (leb 1 x && leb x high) ≡ false → (1 ≤ x) × (x ≤ high)
+within x high h =
+    let both = not-false (leb 1 x && leb x high) h in
+    (leb-true 1 x (and-left (leb 1 x) (leb x high) both), leb-true x high (and-right (leb 1 x) (leb x high) both))
+
+-- What a schedule's header and its number of records satisfy.
+pub record Schedule (s : List ℕ) (d : Header) (n : ℕ) : Type 0 where
+  pub header : d ≡ headerOf s
+  pub p-low : 1 ≤ d .p
+  pub p-high : d .p ≤ mostProcesses
+  pub m-low : 1 ≤ d .m
+  pub m-high : d .m ≤ mostFileCells
+  pub bytes : length s ≡ headerBytes + recordBytes * n
+  pub bytes-high : length s ≤ mostBytes
+  pub kinds : (k : ℕ) → k < n → recordAt s k .kind ≤ mostKind
+
+pub schedule : (s : List ℕ) (r : Reading) (d : Header) (n : ℕ) → r ≡ readOf s → r ≡ Reading.Schedule d n → Schedule s d n
+unfolding readOf
+schedule s r d n e f =
+    let h = past (fileRefusals s) d (headerOf s) n (recordsIn s) (sym e ∙ f) in
+    let none = h .0 in
+    let fits = ltb-false mostBytes (length s) (none .0) in
+    let few = ltb-false mostFileCells (headerOf s .m) (none .1 .1 .1 .0) in
+    let long = leb-true headerBytes (length s) (and-left (leb headerBytes (length s)) (marked s) (not-false _ (none .1 .0))) in
+    let whole = eqb-true (bodyBytes s % recordBytes) 0 (not-false _ (none .1 .1 .1 .1 .0)) in
+    let known = not-false (kindsFit s) (none .1 .1 .1 .1 .1 .0) in
+    let p-in = within (headerOf s .p) mostProcesses (none .1 .1 .1 .1 .1 .1 .0) in
+    let m-in = within (headerOf s .m) mostCells (none .1 .1 .1 .1 .1 .1 .1 .0) in
+    let p-is : d .p ≡ headerOf s .p = ap (λ (x : Header). x .p) (h .1 .0) in
+    let m-is : d .m ≡ headerOf s .m = ap (λ (x : Header). x .m) (h .1 .0) in
+    let n-is = h .1 .1 in
+    record {
+      header = h .1 .0;
+      p-low = rw p-is (p-in .0);
+      p-high = rw p-is (p-in .1);
+      m-low = rw m-is (m-in .0);
+      m-high = rw m-is few;
+      bytes = omega arith;
+      bytes-high = fits;
+      kinds = λ k low. leb-true _ _ (each-at (recordsIn s) k (kindFits s) (omega arith) known);
+    }
+
+-- Its numbers fit their types: first and step 32 bits, the fill 64.
+pub record Words (d : Header) : Type 0 where
+  pub first-fits : d .first < 2 ^ 32
+  pub step-fits : d .step < 2 ^ 32
+  pub fill-fits : d .fill < 2 ^ 64
+
+pub words : (s : List ℕ) → Bytes s → Words (headerOf s)
+words s b = record {
+  first-fits = number-below s 8 4 b;
+  step-fits = number-below s 12 4 b;
+  fill-fits = number-below s 16 8 b;
+}

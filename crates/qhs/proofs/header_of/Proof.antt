@@ -1,47 +1,36 @@
+-- `qhs::header_of` meets its contract.
+-- Assumes nothing.
 use borrow.Author.Needs.{needs}
 use Rattle.qhs.proofs.header_of.Statement.{statement}
 use Rattle.qhs.proofs.header_of.Tie as tie
-use Rattle.qhs.proofs.header_of.Reads as reads
-use Rattle.qhs.proofs.header_of.Lts as lts
-use Rattle.qhs.proofs.fields.number_at.Reads as number-at-reads
 
--- src/lib.rt:71:12
 number-at-requires : tie.Need-number-at-requires
 number-at-requires c κs = search needs
 
--- src/lib.rt:71:12
 cast-t3 : tie.Need-cast-t3
 cast-t3 c = search needs
 
--- src/lib.rt:72:12
 number-at-requires-2 : tie.Need-number-at-requires-2
 number-at-requires-2 c κs = search needs
 
--- src/lib.rt:72:12
 cast-t5 : tie.Need-cast-t5
 cast-t5 c = search needs
 
--- src/lib.rt:73:16
 number-at-requires-3 : tie.Need-number-at-requires-3
 number-at-requires-3 c κs = search needs
 
--- src/lib.rt:73:16
 cast-t7 : tie.Need-cast-t7
 cast-t7 c = search needs
 
--- src/lib.rt:74:15
 number-at-requires-4 : tie.Need-number-at-requires-4
 number-at-requires-4 c κs = search needs
 
--- src/lib.rt:74:15
 cast-t9 : tie.Need-cast-t9
 cast-t9 c = search needs
 
--- src/lib.rt:75:15
 number-at-requires-5 : tie.Need-number-at-requires-5
 number-at-requires-5 c κs = search needs
 
--- src/lib.rt:66:1
 returns : tie.Need-returns
 returns c = cc
 

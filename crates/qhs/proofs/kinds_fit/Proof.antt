@@ -1,12 +1,11 @@
+-- `qhs::kinds_fit` meets its contract.
+-- Assumes nothing.
 use Rattle.qhs.proofs.ReadLaws.{Known, known-none, known-next, known-all, unknown}
 use Prim.Native.Nat.{_≤_, _-_}
 use native.Mathlib.Omega.{arith}
 use borrow.Author.Needs.{needs}
 use Rattle.qhs.proofs.kinds_fit.Statement.{statement}
 use Rattle.qhs.proofs.kinds_fit.Tie as tie
-use Rattle.qhs.proofs.kinds_fit.Reads as reads
-use Rattle.qhs.proofs.kinds_fit.Lts as lts
-use Rattle.qhs.proofs.record_at.Reads as record-at-reads
 
 abbrev Inv-loop : tie.InvT-loop
 Inv-loop bytes n k₀ k = (k ≤ n) × Known bytes k
@@ -14,31 +13,24 @@ Inv-loop bytes n k₀ k = (k ≤ n) × Known bytes k
 abbrev μ-loop : tie.MeasureT-loop
 μ-loop bytes n k₀ k = n - k
 
--- src/lib.rt:92:5
 loop-holds : tie.Need-loop-holds Inv-loop μ-loop
 loop-holds c = (omega arith, known-none _)
 
--- src/lib.rt:93:13
 record-at-requires : tie.Need-record-at-requires Inv-loop μ-loop
 record-at-requires c κs = search needs
 
--- src/lib.rt:95:13
 returns : tie.Need-returns Inv-loop μ-loop
 returns c = search (unknown)
 
--- src/lib.rt:97:13
 add-k : tie.Need-add-k Inv-loop μ-loop
 add-k c = omega arith
 
--- src/lib.rt:92:5
 loop-less : tie.Need-loop-less Inv-loop μ-loop
 loop-less c = omega arith
 
--- src/lib.rt:92:5
 loop-again : tie.Need-loop-again Inv-loop μ-loop
 loop-again c = (omega arith, search (known-next))
 
--- src/lib.rt:88:1
 returns-2 : tie.Need-returns-2 Inv-loop μ-loop
 returns-2 c = search (known-all)
 

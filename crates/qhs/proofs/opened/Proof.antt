@@ -1,26 +1,21 @@
+-- `qhs::opened` meets its contract.
+-- Assumes nothing.
 use Rattle.qhs.proofs.ReadLaws.{no-process, many-processes, no-cell, many-for-open, accepted}
 use Rattle.qhs.proofs.opened.Statement.{statement}
 use Rattle.qhs.proofs.opened.Tie as tie
-use Rattle.qhs.proofs.opened.Reads as reads
-use Rattle.qhs.proofs.opened.Lts as lts
 
--- src/lib.rt:109:9
 returns : tie.Need-returns
 returns c = search (no-process)
 
--- src/lib.rt:112:9
 returns-2 : tie.Need-returns-2
 returns-2 c = search (many-processes)
 
--- src/lib.rt:115:9
 returns-3 : tie.Need-returns-3
 returns-3 c = search (no-cell)
 
--- src/lib.rt:118:9
 returns-4 : tie.Need-returns-4
 returns-4 c = search (many-for-open)
 
--- src/lib.rt:105:1
 returns-5 : tie.Need-returns-5
 returns-5 c = search (accepted)
 

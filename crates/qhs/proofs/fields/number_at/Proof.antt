@@ -1,12 +1,10 @@
+-- `qhs::fields::number_at` meets its contract.
+-- Assumes nothing.
 use Rattle.qhs.proofs.FieldLaws.{Gathered, gathered-none, room, gathered-next, gathered-all, gathered-below}
-use Rattle.qhs.proofs.FieldLaws.{Gathered, gathered-none, room, gathered-next, gathered-all}
 use native.Mathlib.Omega.{arith}
 use borrow.Author.Needs.{needs}
 use Rattle.qhs.proofs.fields.number_at.Statement.{statement}
 use Rattle.qhs.proofs.fields.number_at.Tie as tie
-use Rattle.qhs.proofs.fields.number_at.Reads as reads
-use Rattle.qhs.proofs.fields.number_at.Lts as lts
-use Rattle.qhs.proofs.fields.wide.Reads as wide-reads
 
 abbrev Inv-loop : tie.InvT-loop
 Inv-loop bytes at width n₀ i₀ n i = Gathered bytes at width n i
@@ -14,43 +12,33 @@ Inv-loop bytes at width n₀ i₀ n i = Gathered bytes at width n i
 abbrev μ-loop : tie.MeasureT-loop
 μ-loop bytes at width n₀ i₀ n i = i
 
--- src/fields.rt:32:5
 loop-holds : tie.Need-loop-holds Inv-loop μ-loop
 loop-holds c = gathered-none _ _ _
 
--- src/fields.rt:33:13
 sub-i : tie.Need-sub-i Inv-loop μ-loop
 sub-i c = omega arith
 
--- src/fields.rt:34:13
 mul-n : tie.Need-mul-n Inv-loop μ-loop
 mul-n c = omega (arith, room _ _ _ _ _ (c .before .loop .inv) (search needs) (search needs))
 
--- src/fields.rt:34:34
 add-wide : tie.Need-add-wide Inv-loop μ-loop
 add-wide c = omega (arith, c .before .loop .inv .left)
 
--- src/fields.rt:34:28
 shared-slice-read-wide : tie.Need-shared-slice-read-wide Inv-loop μ-loop
 shared-slice-read-wide c = omega (arith, c .before .before .loop .inv .left)
 
--- src/fields.rt:34:23
 wide-requires : tie.Need-wide-requires Inv-loop μ-loop
 wide-requires c κs = search needs
 
--- src/fields.rt:34:13
 add-n : tie.Need-add-n Inv-loop μ-loop
 add-n c = omega (arith, room _ _ _ _ _ (c .before .before .before .loop .inv) (search needs) (search needs))
 
--- src/fields.rt:32:5
 loop-less : tie.Need-loop-less Inv-loop μ-loop
 loop-less c = omega arith
 
--- src/fields.rt:32:5
 loop-again : tie.Need-loop-again Inv-loop μ-loop
 loop-again c = gathered-next _ _ _ _ _ _ (c .before .before .before .loop .inv) (search needs) (c .wide .ensures .0) (c .wide .ensures .1)
 
--- src/fields.rt:26:1
 returns : tie.Need-returns Inv-loop μ-loop
 returns c = (gathered-all _ _ _ _ _ (c .before .loop .inv) (search needs), gathered-below _ _ _ _ _ (c .before .loop .inv) (search needs))
 

@@ -1,44 +1,34 @@
+-- `qhs::fields::record_of` meets its contract.
+-- Assumes nothing.
 use Rattle.qhs.proofs.FieldLaws.{fields-are}
 use borrow.Author.Needs.{needs}
 use Rattle.qhs.proofs.fields.record_of.Statement.{statement}
 use Rattle.qhs.proofs.fields.record_of.Tie as tie
-use Rattle.qhs.proofs.fields.record_of.Reads as reads
-use Rattle.qhs.proofs.fields.record_of.Lts as lts
-use Rattle.qhs.proofs.fields.number_at.Reads as number-at-reads
 
--- src/fields.rt:72:15
 array-read-t5 : tie.Need-array-read-t5
 array-read-t5 c = search needs
 
--- src/fields.rt:73:18
 array-read-t8 : tie.Need-array-read-t8
 array-read-t8 c = search needs
 
--- src/fields.rt:74:25
 slice-aggregate-number-at : tie.Need-slice-aggregate-number-at
 slice-aggregate-number-at c = search needs
 
--- src/fields.rt:74:15
 number-at-requires : tie.Need-number-at-requires
 number-at-requires c κs = search needs
 
--- src/fields.rt:74:15
 cast-t12 : tie.Need-cast-t12
 cast-t12 c = search needs
 
--- src/fields.rt:75:26
 slice-aggregate-number-at-2 : tie.Need-slice-aggregate-number-at-2
 slice-aggregate-number-at-2 c = search needs
 
--- src/fields.rt:75:16
 number-at-requires-2 : tie.Need-number-at-requires-2
 number-at-requires-2 c κs = search needs
 
--- src/fields.rt:75:16
 cast-t16 : tie.Need-cast-t16
 cast-t16 c = search needs
 
--- src/fields.rt:68:1
 returns : tie.Need-returns
 returns c = search (fields-are)
 
