@@ -1,0 +1,135 @@
+-- The lines of the output from their words and numbers: none is cut.
+-- Assumes nothing.
+use Prim.Native.Nat.{ℕ, suc, _+_, _^_, _<_, _≤_}
+use mathlib.Core.Path.{_≡_, refl, sym, ap, _∙_}
+use mathlib.Core.Bool.{Bool, true, false}
+use mathlib.Core.List.{List, [], _∷_, _++_, append-nil}
+use native.Mathlib.Omega.{arith}
+use lib.ListN.{length, length-append}
+use lib.Seq.{take-all}
+use Rattle.refusals.specs.Numbers.{numberOf}
+use Rattle.refusals.specs.declared.Refusal.{Refusal}
+use Rattle.grid.specs.declared.Answer.{Answer}
+use Rattle.grid.specs.declared.Answer.the-variants as Answer
+use Rattle.text.specs.Text.{word, newline, decimal, bit, two, saying, answerLine, sizesLine, fileRefusedLine, Placed, putOf}
+use Rattle.text.specs.Laws.{decimal-short}
+use Rattle.text.specs.declared.line.Line.{Line}
+use Rattle.text.specs.Inner.{room, soFar, cut, Grown, Made, Said, Answered}
+use Rattle.text.proofs.LineLaws.{then}
+
+pub two-is : (l x y r : Line) (v n : ℕ) → Grown l x (decimal v) → Grown x y (word " ") → Grown y r (decimal n) → Grown l r (two v n)
+two-is l x y r v n e f g = then l x r (decimal v) (word " " ++ decimal n) e (then x y r (word " ") (decimal n) f g)
+
+-- how long the numbers of an answer are
+two-length : (j v n : ℕ) → v < 10 ^ suc j → n < 256 → length (two v n) ≤ suc j + 4
+two-length j v n h k =
+    simp length-append (omega (arith, decimal-short j v h, decimal-short 2 n (omega arith), length-append (word " ") (decimal n)))
+
+module _ (l r : Line) (a : Answer) where
+  pub said-begun : a ≡ Answer.Begun → Grown l r (word "begun") → Said l r a
+  said-begun e g = rw e (record { grown = g; short = omega arith })
+
+  pub said-going : a ≡ Answer.Going → Grown l r (word "going") → Said l r a
+  said-going e g = rw e (record { grown = g; short = omega arith })
+
+  pub said-read : (x : Line) (v n : ℕ) → v < 4294967296 → n < 256 → a ≡ Answer.Read v n → Grown l x (word "read ") → Grown x r (two v n) → Said l r a
+  said-read x v n h k e f g =
+      rw e
+      (record {
+        grown = then l x r (word "read ") (two v n) f g;
+        short = omega (arith, two-length 9 v n (omega arith) k, length-append (word "read ") (two v n));
+      })
+
+  pub said-written : (x : Line) (n : ℕ) → n < 256 → a ≡ Answer.Written n → Grown l x (word "written ") → Grown x r (decimal n) → Said l r a
+  said-written x n k e f g =
+      rw e
+      (record {
+        grown = then l x r (word "written ") (decimal n) f g;
+        short = omega (arith, decimal-short 2 n (omega arith), length-append (word "written ") (decimal n));
+      })
+
+  pub said-asked : (x : Line) (b : Bool) (v n : ℕ) → v ≡ bit b → n < 256 → a ≡ Answer.Asked b n → Grown l x (word "asked ") → Grown x r (two v n) → Said l r a
+  said-asked x b v n i k e f g =
+      let g′ : Grown x r (two (bit b) n) = rw i at g in
+      let low : bit b < 10 = small b in
+      rw e
+      (record {
+        grown = then l x r (word "asked ") (two (bit b) n) f g′;
+        short = omega (arith, two-length 0 (bit b) n low k, length-append (word "asked ") (two (bit b) n));
+      })
+    where
+      small : (b : Bool) → bit b < 10
+      small true = omega arith
+      small false = omega arith
+
+  pub said-refused : (x : Line) (y : Refusal) (n : ℕ) → n ≡ numberOf y → n < 4294967296 → a ≡ Answer.Refused y → Grown l x (word "refused ") → Grown x r (decimal n) → Said l r a
+  said-refused x y n i k e f g =
+      let g′ : Grown x r (decimal (numberOf y)) = rw i at g in
+      let low : numberOf y < 4294967296 = rw i at k in
+      rw e
+      (record {
+        grown = then l x r (word "refused ") (decimal (numberOf y)) f g′;
+        short = omega (arith, decimal-short 9 (numberOf y) (omega arith), length-append (word "refused ") (decimal (numberOf y)));
+      })
+
+-- a line from nothing that fits its room
+made : (o r : Line) (bytes : List ℕ) → Made o [] → Grown o r bytes → length bytes ≤ room → Made r bytes
+made o r bytes e g h =
+    record { sized = g .sized; is = g .is ∙ ap (λ (xs : List ℕ). cut (xs ++ bytes)) (e .is) ∙ take-all room bytes h }
+
+pub answered : (o x y z r : Line) (k : ℕ) (a : Answer) → k < 18446744073709551616 → Made o [] → Grown o x (decimal k) → Grown x y (word " ")
+    → Said y z a → Grown z r newline → Answered k a r
+unfolding answerLine
+answered o x y z r k a h m d s t n =
+    let short : length (answerLine k a) ≤ length (decimal k) + 21 =
+    simp length-append (omega (arith, t .short, length-append (word " ") (saying a ++ newline), length-append (saying a) newline)) in
+    record {
+      made =
+          made o r (answerLine k a) m
+          (then o x r (decimal k) (word " " ++ (saying a ++ newline)) d
+          (then x y r (word " ") (saying a ++ newline) s (then y z r (saying a) newline (t .grown) n)))
+          (omega (arith, short, decimal-short 19 k (omega arith)));
+      short = short;
+    }
+
+pub sizes-is : (o x y z w r : Line) (p m : ℕ) → p < 4294967296 → m < 4294967296 → Made o [] → Grown o x (word "processes ") → Grown x y (decimal p)
+    → Grown y z (word " cells ") → Grown z w (decimal m) → Grown w r newline → Made r (sizesLine p m)
+unfolding sizesLine
+sizes-is o x y z w r p m h k e f g i j n =
+    made o r (sizesLine p m) e
+    (then o x r (word "processes ") (decimal p ++ (word " cells " ++ (decimal m ++ newline))) f
+    (then x y r (decimal p) (word " cells " ++ (decimal m ++ newline)) g
+    (then y z r (word " cells ") (decimal m ++ newline) i (then z w r (decimal m) newline j n))))
+    (omega (
+      arith,
+      decimal-short 9 p (omega arith),
+      decimal-short 9 m (omega arith),
+      length-append (word "processes ") (decimal p ++ (word " cells " ++ (decimal m ++ newline))),
+      length-append (decimal p) (word " cells " ++ (decimal m ++ newline)),
+      length-append (word " cells ") (decimal m ++ newline),
+      length-append (decimal m) newline,
+    ))
+
+pub refused-is : (o x y r : Line) (n : ℕ) (f : Refusal) → n ≡ numberOf f → n < 4294967296 → Made o [] → Grown o x (word "file refused ")
+    → Grown x y (decimal n) → Grown y r newline → Made r (fileRefusedLine f)
+unfolding fileRefusedLine
+refused-is o x y r n f i h e g j k =
+    let low : numberOf f < 4294967296 = rw i at h in
+    let j′ : Grown x y (decimal (numberOf f)) = rw i at j in
+    made o r (fileRefusedLine f) e
+    (then o x r (word "file refused ") (decimal (numberOf f) ++ newline) g (then x y r (decimal (numberOf f)) newline j′ k))
+    (omega (
+      arith,
+      decimal-short 9 (numberOf f) (omega arith),
+      length-append (word "file refused ") (decimal (numberOf f) ++ newline),
+      length-append (decimal (numberOf f)) newline,
+    ))
+
+-- the line is what is put
+pub put-made : (l : Line) (bytes out : List ℕ) (at : ℕ) (p : Placed) → Made l bytes → p ≡ putOf out at (soFar l) → p ≡ putOf out at bytes
+put-made l bytes out at p m e = e ∙ ap (λ (xs : List ℕ). putOf out at xs) (m .is)
+
+pub put-number : (o l : Line) (out : List ℕ) (at n : ℕ) (p : Placed) → n < 18446744073709551616 → Made o [] → Grown o l (decimal n)
+    → p ≡ putOf out at (soFar l) → p ≡ putOf out at (decimal n)
+put-number o l out at n p h m g e =
+    put-made l (decimal n) out at p (made o l (decimal n) m g (omega (arith, decimal-short 19 n (omega arith)))) e
