@@ -61,7 +61,7 @@ starred =
     -- process 0 ends at its step 11. Marks in force 2 and 1; drawn 8.
     ∷ plays 2 2 (write 0 0 7 ∷ steps 0 9 ∷ write 0 1 8 ∷ steps 0 9 ∷ write 1 1 9 ∷ steps 1 10 ∷ []) (wrote 10 ∷ [])
     ∷ plays 2 2 (write 0 0 7 ∷ steps 0 9 ∷ write 0 1 8 ∷ steps 0 9 ∷ write 1 1 9 ∷ steps 1 10 ∷ steps 0 2 ∷ [])
-        (wrote 11 ∷ inForce 0 2 ∷ inForce 1 1 ∷ handedOut 8 ∷ [])
+    (wrote 11 ∷ inForce 0 2 ∷ inForce 1 1 ∷ handedOut 8 ∷ [])
     ∷ []
 
 pub starred-hold : T (all starred)

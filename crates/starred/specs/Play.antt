@@ -40,7 +40,7 @@ moved g (write q i v) =
     record {
       state = beginOf (g .state) q (Ask.Write (record { 0 = i }) v) .state;
       memory = g .memory;
-      answer = beginOf (g .state) q (Ask.Write (record { 0 = i }) v) .answer
+      answer = beginOf (g .state) q (Ask.Write (record { 0 = i }) v) .answer;
     }
 moved g (steps q n) = walk g q n
 
