@@ -1,0 +1,69 @@
+-- 1. "Any number, memory or state may be handed in. Each call either does its work or gives the refusal that the table
+-- assigns, in the table's order. A refusal returns the state it was given, if any, and changes no lent word."
+-- Assumes nothing.
+use Prim.Native.Nat.{ℕ}
+use mathlib.Core.Path.{_≡_}
+use mathlib.Core.Bool.{Bool, true, false, not}
+use mathlib.Core.List.{List, [], _∷_, _++_}
+use Rattle.refusals.specs.Orders.{Rule, _gives_, orders}
+use Rattle.refusals.specs.declared.Refusal.{Refusal}
+use Rattle.refusals.specs.declared.Refusal.the-variants as Refusal
+use Rattle.lanes.specs.declared.State.{State}
+use Rattle.lanes.specs.Ranges.{laneOf, stateFits}
+use Rattle.steps.specs.Memory.{Memory}
+use Rattle.steps.specs.Steps.{turnOf}
+use Rattle.grid.specs.declared.Ask.{Ask}
+use Rattle.grid.specs.declared.Answer.{Answer}
+use Rattle.grid.specs.declared.Answer.the-variants as Answer
+use Rattle.grid.specs.declared.Opening.{Opening}
+use Rattle.grid.specs.declared.Opening.the-variants as Opening
+use Rattle.grid.specs.declared.Stepped.{Stepped}
+use Rattle.grid.specs.declared.Verdict.{Verdict}
+use Rattle.grid.specs.declared.Verdict.the-variants as Verdict
+use Rattle.grid.specs.Calls.{outcome, openOf, openRefusals, beginRefusals, stepRefusals, sizesOf, seenBy, decided}
+use Rattle.demands.specs.Calls.{Machine}
+
+-- What an answer says of a call: it is refused, or an operation begins, or an operation takes a step.
+pub data Kind : Type 0 where
+  refused : Refusal → Kind
+  begins : Kind
+  steps : Kind
+
+abbrev pub kind : Answer → Kind
+kind Answer.Begun = begins
+kind Answer.Going = steps
+kind (Answer.Read v n) = steps
+kind (Answer.Written n) = steps
+kind (Answer.Asked t n) = steps
+kind (Answer.Refused r) = refused r
+
+-- Begin: 9 (state), 4, 6, 5.
+abbrev pub beginTable : State → ℕ → Ask → List Rule
+beginTable s q a = beginRefusals (stateFits s) (s .p) (s .m) q (laneOf s q) a
+
+-- Step: 9 (state), 8, 4, 7, 9 (word, draw or new number).
+abbrev pub moves : Verdict → Bool
+moves (Verdict.Refused r) = false
+moves (Verdict.Moved change next) = true
+
+abbrev pub stepTable : State → ℕ → Memory → List Rule
+stepTable s q mem =
+    stepRefusals (stateFits s) (s .p) (s .m) mem q (laneOf s q)
+    ++ (not (moves (decided (sizesOf s) (laneOf s q) (turnOf (sizesOf s) q (laneOf s q) (seenBy s q) mem))) gives Refusal.OutOfRange ∷ [])
+
+abbrev pub refusedOn : State → Refusal → Stepped
+refusedOn s r = record { state = s; answer = Answer.Refused r }
+
+pub record Demand1 (M : Machine) : Type 0 where
+  -- the first refusal that holds is given, and none where none holds
+  pub begin-table : (s : State) (q : ℕ) (a : Ask) → kind (M .begin s q a .answer) ≡ orders refused (beginTable s q a) begins
+  pub step-table : (s : State) (q : ℕ) (mem : Memory) → kind (M .step s q mem .stepped .answer) ≡ orders refused (stepTable s q mem) steps
+  -- a refused call returns the state as received, and every lent word as it was
+  pub begin-refused : (s : State) (q : ℕ) (a : Ask) (r : Refusal) → M .begin s q a .answer ≡ Answer.Refused r → M .begin s q a ≡ refusedOn s r
+  pub step-refused : (s : State) (q : ℕ) (mem : Memory) (r : Refusal)
+      → M .step s q mem .stepped .answer ≡ Answer.Refused r → M .step s q mem ≡ outcome (refusedOn s r) mem
+
+-- Open: 1, 2, 3. It gives no state to return, and is lent memory only to look at its lengths.
+abbrev pub OpenTable : Type 0
+OpenTable =
+    (p m first stride : ℕ) (mem : Memory) → openOf p m first stride mem .opening ≡ orders Opening.Refused (openRefusals p m mem) Opening.Open

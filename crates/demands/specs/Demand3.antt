@@ -1,0 +1,52 @@
+-- 3. "A read ends by its own step 5, a written-or-not question by its own step 4, a write by its own step 11, and the
+-- reported count is the count of its steps. Mark words handed out never exceed 4 for each different cell for which a
+-- write has begun plus 2 for each loader that has begun one. So a pool of 4 per cell plus 2 per loader never runs short."
+-- Assumes nothing.
+use Prim.Native.Nat.{ℕ, suc, _+_, _*_, _≤_, _<_}
+use mathlib.Core.Path.{_≡_}
+use Rattle.grid.specs.declared.Ask.{Ask}
+use Rattle.grid.specs.declared.Ask.the-variants as Ask
+use Rattle.grid.specs.declared.Answer.{Answer}
+use Rattle.grid.specs.declared.Answer.the-variants as Answer
+use Rattle.theory.specs.Interface.{sum}
+use Rattle.demands.specs.Calls.{Machine, Call, step, answerTo}
+use Rattle.demands.specs.Book.{Doing, nothing, busy, Run}
+
+abbrev pub mostSteps : Ask → ℕ
+mostSteps (Ask.Read i) = 5
+mostSteps (Ask.Asked i) = 4
+mostSteps (Ask.Write i v) = 11
+
+-- An operation ends with the count of its steps, at most so many.
+abbrev pub Reports : ℕ → ℕ → ℕ → Type 0
+Reports most taken n = (n ≡ taken) × (n ≤ most)
+
+-- An accepted step is the `taken`-th of an operation: it goes on, and is not the last allowed; or it ends the operation.
+abbrev pub Answers : ℕ → ℕ → Answer → Type 0
+Answers most taken Answer.Begun = ⊥
+Answers most taken Answer.Going = taken < most
+Answers most taken (Answer.Read v n) = Reports most taken n
+Answers most taken (Answer.Written n) = Reports most taken n
+Answers most taken (Answer.Asked t n) = Reports most taken n
+Answers most taken (Answer.Refused r) = Unit {0}
+
+-- Each operation ends once: a step of a process that is doing nothing is never accepted.
+abbrev pub Refuses : Answer → Type 0
+Refuses Answer.Begun = ⊥
+Refuses Answer.Going = ⊥
+Refuses (Answer.Read v n) = ⊥
+Refuses (Answer.Written n) = ⊥
+Refuses (Answer.Asked t n) = ⊥
+Refuses (Answer.Refused r) = Unit {0}
+
+abbrev pub Counts : Doing → Answer → Type 0
+Counts nothing x = Refuses x
+Counts (busy began a taken) x = Answers (mostSteps a) (suc taken) x
+
+-- The next step of any process.
+abbrev pub Counted : Machine → Run → Type 0
+Counted M r = (q : ℕ) → Counts (r .book .doing q) (M .step (r .world .state) q (r .world .memory) .stepped .answer)
+
+-- `cells` and `procs` are 1 or 0: their sums count the different cells and loaders.
+abbrev pub PoolSpent : ℕ → ℕ → Run → Type 0
+PoolSpent p m r = r .world .state .top ≤ 4 * sum (r .book .cells) m + 2 * sum (r .book .procs) p

@@ -1,0 +1,7 @@
+pub mod Calls
+pub mod Book
+pub mod Agrees
+pub mod Demand1
+pub mod Demand2
+pub mod Demand3
+pub mod Demanded
