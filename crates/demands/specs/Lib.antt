@@ -5,3 +5,8 @@ pub mod Demand1
 pub mod Demand2
 pub mod Demand3
 pub mod Demanded
+pub mod Shadow
+pub mod ShadowLaws
+pub mod Good
+pub mod Goes
+pub mod Looks

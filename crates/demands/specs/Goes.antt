@@ -1,0 +1,150 @@
+-- A step of the code is the theory's step: what that takes, and the check (a) to (d).
+-- Assumes nothing.
+use Prim.Native.Nat.{ℕ, _+_, _<_}
+use mathlib.Core.Path.{_≡_, refl, sym, ap, _∙_}
+use mathlib.Core.Bool.{Bool, true, false}
+use native.Mathlib.Decide.{ℕ-discrete, decLt}
+use native.Mathlib.Omega.{arith}
+use borrow.Author.Tests.{lt-ltb}
+use lib.Dec.{ltb, eqb}
+use lib.ListN.{length, getD}
+use Rattle.numbers.specs.Numbers.{mostSegments, segmentOf, offsetOf, directoryWord, processOf, placeOf}
+use Rattle.refusals.specs.Orders.{pick}
+use Rattle.lanes.specs.declared.Check.{Check}
+use Rattle.lanes.specs.declared.Check.the-variants as Check
+use Rattle.lanes.specs.declared.Op.{Op}
+use Rattle.lanes.specs.declared.State.{State}
+use Rattle.lanes.specs.Ranges.{laneOf}
+use Rattle.steps.specs.Memory.{Memory}
+use Rattle.steps.specs.declared.Got.{Got}
+use Rattle.steps.specs.declared.Got.the-variants as Got
+use Rattle.steps.specs.declared.Found.{Found}
+use Rattle.steps.specs.declared.Found.the-variants as Found
+use Rattle.steps.specs.declared.Change.{Change}
+use Rattle.steps.specs.declared.Change.the-variants as Change
+use Rattle.steps.specs.declared.Next.{Next}
+use Rattle.steps.specs.declared.Next.the-variants as Next
+use Rattle.steps.specs.declared.Turn.{Turn}
+use Rattle.steps.specs.declared.Turn.the-variants as Turn
+use Rattle.steps.specs.Steps.{startOf, poolWord, checkMark, check, opTurn}
+use Rattle.steps.specs.Changes.{topAfter, memoryAfter}
+use Rattle.grid.specs.declared.Ask.{Ask}
+use Rattle.grid.specs.Calls.{cellOf, namedIn, named, sizesOf}
+use Rattle.theory.specs.Interface as Theory
+use Rattle.demands.specs.Book.{Book, kindOf}
+use Rattle.demands.specs.Agrees.{Does}
+use Rattle.demands.specs.Shadow.{gridOf, linkOf, checkAt, stageOf, changeOf, nextOf, startsIn, wordsOf}
+use Rattle.demands.specs.ShadowLaws.{pick-yes, pick-both, pick-lt, pick-eq, upd-self}
+use Rattle.demands.specs.Good.{HeldIn, Held, Good, law, behind}
+
+-- the word that a change stores in the readings or the links lies inside them
+abbrev pub Stores : Memory → Change → Type 0
+Stores mem Change.Nothing = Unit {0}
+Stores mem (Change.Reading i v) = i .0 < length (mem .readings)
+Stores mem (Change.Link i w) = i .0 < length (mem .links)
+Stores mem (Change.Directory k start) = Unit {0}
+Stores mem (Change.Mark start n mark) = Unit {0}
+Stores mem (Change.Marks n) = Unit {0}
+Stores mem (Change.Top top drawn) = Unit {0}
+
+-- the operation that goes on is the one asked, and holds the start x if it holds one
+abbrev pub Carries : Ask → ℕ → Next → Type 0
+Carries a x (Next.Going o) = Does a o × Held o x
+Carries a x (Next.Read v) = Unit {0}
+Carries a x Next.Written = Unit {0}
+Carries a x (Next.Asked t) = Unit {0}
+
+abbrev pub turnAs : Turn → Theory.Turn
+turnAs Turn.Outside = Theory.turnTo Theory.keep (Theory.go Theory.store)
+turnAs (Turn.Turned change next) = Theory.turnTo (changeOf change) (nextOf next)
+
+-- a check that touches inside its memory; it holds the start x if it holds one
+abbrev pub Fine : ℕ → Found → Type 0
+Fine x Found.Outside = ⊥
+Fine x (Found.On c) = HeldIn c x
+Fine x (Found.NotWritten w) = Unit {0}
+Fine x Found.Written = Unit {0}
+
+module _ {s : State} {mem : Memory} {b : Book} (H : Good s mem b) (q : ℕ) where
+  abbrev pub memory : Theory.Mem
+  memory = behind H .watch .mem
+
+  abbrev pub turnFor : Op → Turn
+  turnFor o = opTurn (sizesOf s) q (laneOf s q) (laneOf s (named o) .marks) mem o
+
+  -- a step at an operation is the theory's step; `start` is the start held after it
+  pub record Goes (a : Ask) (o : Op) : Type 0 where
+    pub change : Change
+    pub next : Next
+    pub start : ℕ
+    pub turned : turnFor o ≡ Turn.Turned change next
+    pub same : Theory.takeTurn (gridOf s) memory q (kindOf a) (cellOf a .0) (stageOf o) ≡ turnAs (Turn.Turned change next)
+    pub stores : Stores mem change
+    pub words : Theory.wordsAfter (gridOf s) (behind H .words) q (cellOf a .0) (stageOf o)
+        ≡ wordsOf (topAfter change (s .top)) (memoryAfter change mem) (Theory.upd (H .held) q start)
+    pub carries : Carries a start next
+
+  -- the words where a step changes none of them
+  pub still : wordsOf (s .top) mem (H .held) ≡ wordsOf (s .top) mem (Theory.upd (H .held) q (H .held q))
+  still = ap (wordsOf (s .top) mem) (sym (upd-self (H .held) q (H .held q) refl))
+
+  -- ---- the check
+
+  abbrev pub found : ℕ → Check → Found
+  found i c = check (s .p) (laneOf s (namedIn c) .marks) (mem .links) (mem .directory) (mem .pool) i c
+
+  abbrev pub after : Theory.Op → ℕ → Found → Theory.Next
+  after o i Found.Outside = Theory.go Theory.store
+  after o i (Found.On c) = Theory.go (checkAt c)
+  after o i (Found.NotWritten w) = Theory.failed (gridOf s) memory q o i (linkOf w)
+  after o i Found.Written = Theory.passed o
+
+  pub record Checked (o : Theory.Op) (i : ℕ) (c : Check) : Type 0 where
+    pub start : ℕ
+    pub same : Theory.takeTurn (gridOf s) memory q o i (checkAt c) ≡ Theory.turnTo Theory.keep (after o i (found i c))
+    pub words : Theory.wordsAfter (gridOf s) (behind H .words) q i (checkAt c) ≡ wordsOf (s .top) mem (Theory.upd (H .held) q start)
+    pub fine : Fine start (found i c)
+
+  -- a pool word that the touched place has
+  pub word-at : (start n : ℕ) → start + offsetOf n < length (mem .pool) → poolWord (mem .pool) start n ≡ Got.Word (getD (mem .pool) (start + offsetOf n) 0)
+  word-at start n h = rw (lt-ltb (start + offsetOf n) (length (mem .pool)) h)
+
+  pub checked : (o : Theory.Op) (i : ℕ) (c : Check) → behind H .watch .lane q ≡ Theory.busy o i (checkAt c) → HeldIn c (H .held q) → Checked o i c
+  checked o i Check.Link e h = record {
+    start = H .held q;
+    same = ap (Theory.turnTo Theory.keep) (pick-lt (after o i) (processOf w) (s .p) (Found.On (Check.Marks w)) (Found.NotWritten w));
+    words = still;
+    fine = pick-both (Fine (H .held q)) (ltb (processOf w) (s .p)) (Found.On (Check.Marks w)) (Found.NotWritten w) tt tt;
+  }
+    where
+      w : ℕ
+      w = getD (mem .links) i 0
+  checked o i (Check.Marks w) e h = record {
+    start = H .held q;
+    same = ap (Theory.turnTo Theory.keep) (pick-lt (after o i) (placeOf w) (laneOf s (processOf w) .marks) (Found.On (Check.Directory w)) (Found.NotWritten w));
+    words = still;
+    fine = pick-both (Fine (H .held q)) (ltb (placeOf w) (laneOf s (processOf w) .marks)) (Found.On (Check.Directory w)) (Found.NotWritten w) tt tt;
+  }
+  checked o i (Check.Directory w) e h = record {
+    start = startsIn (mem .directory) (processOf w) (segmentOf (placeOf w));
+    same = refl;
+    words = refl;
+    fine = pick-yes (decLt (segmentOf (placeOf w)) mostSegments) (startOf (mem .directory) (processOf w) (placeOf w)) 0 (Theory.touches (law H) (H .whole) q e .1);
+  }
+  checked o i (Check.Mark start w) e h = record {
+    start = H .held q;
+    same =
+        ap (λ (y : ℕ). Theory.turnTo Theory.keep (Theory.pick (ℕ-discrete y i) (Theory.passed o) (Theory.failed (gridOf s) memory q o i (linkOf w)))) (sym read)
+        ∙ ap (Theory.turnTo Theory.keep) (pick-eq (after o i) x i Found.Written (Found.NotWritten w) ∙ ap (after o i) (sym is));
+    words = still;
+    fine = rw is (pick-both (Fine (H .held q)) (eqb x i) Found.Written (Found.NotWritten w) tt tt);
+  }
+    where
+      x : ℕ
+      x = getD (mem .pool) (start + offsetOf (placeOf w)) 0
+
+      read : x ≡ H .marks (processOf w) (placeOf w)
+      read = ap (λ (y : ℕ). getD (mem .pool) (y + offsetOf (placeOf w)) 0) (sym h) ∙ Theory.mark-read (law H) (H .whole) q e
+
+      is : found i (Check.Mark start w) ≡ pick (eqb x i) Found.Written (Found.NotWritten w)
+      is = ap (checkMark i w) (word-at start (placeOf w) (omega (arith, H .lengths .pool, h, Theory.touches (law H) (H .whole) q e .1 .0)))

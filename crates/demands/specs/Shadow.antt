@@ -1,0 +1,147 @@
+-- The theory's run that stands behind a state, the lent memories and the book.
+-- Assumes nothing.
+use Prim.Native.Nat.{ℕ, suc, _+_, _*_, _^_, _≤_, _<_}
+use mathlib.Core.Path.{_≡_}
+use mathlib.Core.List.{List}
+use native.Mathlib.Decide.{decLt}
+use native.Mathlib.Numerals.{add-one}
+use native.Mathlib.Omega.{arith}
+use lib.ListN.{getD}
+use lib.Pow.{pow-mono}
+use Rattle.numbers.specs.Numbers.{mostCells, mostSegments, segmentOf, offsetOf, directoryWord, processOf, placeOf, fillOf, tombstone}
+use Rattle.numbers.specs.Laws.{segment-bounds, place-at}
+use Rattle.lanes.specs.declared.Check.{Check}
+use Rattle.lanes.specs.declared.Check.the-variants as Check
+use Rattle.lanes.specs.declared.Stage.{Stage}
+use Rattle.lanes.specs.declared.Stage.the-variants as Stage
+use Rattle.lanes.specs.declared.Op.{Op}
+use Rattle.lanes.specs.declared.Op.the-variants as Op
+use Rattle.lanes.specs.declared.State.{State}
+use Rattle.lanes.specs.Ranges.{laneOf}
+use Rattle.steps.specs.Memory.{Memory}
+use Rattle.steps.specs.declared.Change.{Change}
+use Rattle.steps.specs.declared.Change.the-variants as Change
+use Rattle.steps.specs.declared.Next.{Next}
+use Rattle.steps.specs.declared.Next.the-variants as Next
+use Rattle.grid.specs.Calls.{cellOf}
+use Rattle.theory.specs.Interface as Theory
+use Rattle.demands.specs.Book.{Doing, nothing, busy, Book, kindOf}
+
+-- ---- the grid
+
+pub segment-low : (n : ℕ) → 2 ^ suc (segmentOf n) ≤ n + 2
+segment-low n = rw (← add-one (segmentOf n)) (segment-bounds n .0)
+
+pub segment-high : (n : ℕ) → n + 2 < 2 ^ suc (suc (segmentOf n))
+segment-high n = let e : suc (suc (segmentOf n)) ≡ segmentOf n + 2 = omega arith in rw e (segment-bounds n .1)
+
+pub segment-at : (n : ℕ) → offsetOf n + 2 ^ suc (segmentOf n) ≡ n + 2
+segment-at n =
+    let one : 1 ≤ segmentOf n + 1 = omega arith in
+    rw (← add-one (segmentOf n)) (omega (arith, place-at n, segment-bounds n, pow-mono one))
+
+abbrev pub shape : Theory.Shape
+shape = record { seg = segmentOf; off = offsetOf; segments = mostSegments; low = segment-low; high = segment-high; at = segment-at }
+
+abbrev pub gridOf : State → Theory.Grid
+gridOf s = record { p = s .p; m = s .m; f = fillOf (s .first) (s .step); code = λ i. i; grave = tombstone; shape = shape }
+
+pub lawful : (s : State) → s .m ≤ mostCells → Theory.Lawful (gridOf s)
+lawful s h = record { inj = λ i j hi hj e. e; apart = λ i hi e. let y : ⊥ = omega arith in y; enough = omega arith }
+
+-- ---- stages
+
+abbrev pub linkOf : ℕ → Theory.Link
+linkOf w = Theory.mk (processOf w) (placeOf w)
+
+abbrev pub checkAt : Check → Theory.Stage
+checkAt Check.Link = Theory.checkLink
+checkAt (Check.Marks w) = Theory.checkMarks (linkOf w)
+checkAt (Check.Directory w) = Theory.checkDirectory (linkOf w)
+checkAt (Check.Mark start w) = Theory.checkMark (linkOf w)
+
+abbrev pub writeAt : Stage → Theory.Stage
+writeAt (Stage.Store v) = Theory.store
+writeAt (Stage.Check c) = checkAt c
+writeAt (Stage.Draw stored w n) = Theory.draw stored (linkOf w) (n .0)
+writeAt (Stage.Enter stored start w n) = Theory.enter stored (linkOf w) (n .0)
+writeAt (Stage.Tombstone w n) = Theory.tombstone (linkOf w) (n .0)
+writeAt (Stage.Mark w n) = Theory.mark (linkOf w) (n .0)
+writeAt (Stage.Force w n) = Theory.force (linkOf w) (n .0)
+writeAt (Stage.Swap w n) = Theory.swap (linkOf w) (n .0)
+writeAt (Stage.TakeBack n) = Theory.takeBack (n .0)
+
+abbrev pub stageOf : Op → Theory.Stage
+stageOf Op.Idle = Theory.store
+stageOf (Op.Read i c) = checkAt c
+stageOf (Op.Reading i) = Theory.fetch
+stageOf (Op.Asked i c) = checkAt c
+stageOf (Op.Write i t) = writeAt t
+
+-- The operation, its cell and the value written come from the book, its stage from the lane.
+abbrev pub laneFor : Doing → Op → Theory.Lane
+laneFor nothing o = Theory.idle
+laneFor (busy began a taken) o = Theory.busy (kindOf a) (cellOf a .0) (stageOf o)
+
+abbrev pub sinceOf : Doing → ℕ
+sinceOf nothing = 0
+sinceOf (busy began a taken) = began
+
+abbrev pub takenOf : Doing → ℕ
+takenOf nothing = 0
+takenOf (busy began a taken) = taken
+
+-- ---- what a step changes, and what comes next
+
+abbrev pub changeOf : Change → Theory.Change
+changeOf Change.Nothing = Theory.keep
+changeOf (Change.Reading i v) = Theory.setReading (i .0) v
+changeOf (Change.Link i w) = Theory.setLink (i .0) (linkOf w)
+changeOf (Change.Directory k start) = Theory.keep
+changeOf (Change.Mark start n mark) = Theory.setMark (n .0) mark
+changeOf (Change.Marks n) = Theory.setInForce n
+changeOf (Change.Top top drawn) = Theory.setDrawn drawn
+
+abbrev pub nextOf : Next → Theory.Next
+nextOf (Next.Going o) = Theory.go (stageOf o)
+nextOf (Next.Read v) = Theory.end (Theory.got v)
+nextOf Next.Written = Theory.end Theory.done
+nextOf (Next.Asked t) = Theory.end (Theory.told t)
+
+-- ---- the run; the marks by lane and place, and the starts that processes hold, are the proof's own
+
+abbrev pub memOf : State → Memory → (ℕ → ℕ → ℕ) → Theory.Mem
+memOf s mem marks =
+    record {
+      reading = λ i. getD (mem .readings) i 0;
+      link = λ i. linkOf (getD (mem .links) i 0);
+      inForce = λ q. laneOf s q .marks;
+      drawn = λ q. laneOf s q .drawn;
+      marks = marks;
+    }
+
+-- a lane has no segment at or beyond the seventeenth
+abbrev pub startsIn : List ℕ → ℕ → ℕ → ℕ
+startsIn directory q s = Theory.pick (decLt s mostSegments) (getD directory (directoryWord q s) 0) 0
+
+abbrev pub wordsOf : ℕ → Memory → (ℕ → ℕ) → Theory.Words
+wordsOf top mem held = record { directory = startsIn (mem .directory); pool = λ k. getD (mem .pool) k 0; top = top; held = held }
+
+abbrev pub watchOf : State → Memory → Book → (ℕ → ℕ → ℕ) → Theory.Watch
+watchOf s mem b marks =
+    record {
+      mem = memOf s mem marks;
+      lane = λ q. laneFor (b .doing q) (laneOf s q .op);
+      now = b .now;
+      since = λ q. sinceOf (b .doing q);
+      ended = b .ended;
+    }
+
+abbrev pub shadow : State → Memory → Book → (ℕ → ℕ → ℕ) → (ℕ → ℕ) → Theory.Run
+shadow s mem b marks held =
+    record {
+      watch = watchOf s mem b marks;
+      words = wordsOf (s .top) mem held;
+      tally = record { cells = b .cells; procs = b .procs };
+      taken = λ q. takenOf (b .doing q);
+    }
