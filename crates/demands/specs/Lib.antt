@@ -10,3 +10,4 @@ pub mod ShadowLaws
 pub mod Good
 pub mod Goes
 pub mod Looks
+pub mod Writes
