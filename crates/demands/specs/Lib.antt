@@ -11,3 +11,5 @@ pub mod Good
 pub mod Goes
 pub mod Looks
 pub mod Writes
+pub mod Keep
+pub mod KeepStep

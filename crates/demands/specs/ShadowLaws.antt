@@ -67,9 +67,9 @@ list-set h xs i v d l = λ z k. at k (ℕ-discrete k i) z
     at k (no e) = Theory.upd-other (λ k. h (getD xs k d)) i (h v) k e ∙ ap h (sym (getD-set-other xs i k v d e))
 
 -- of a process: what it is doing, and its lane
-module _ {B : Type 0} (h : Doing → Lane → B) (doing : ℕ → Doing) (lanes : List Lane) (q : ℕ) (d : Doing) (l : Lane) (inside : q < length lanes) where
-  pub lane-set : _≡_ {A = ℕ → B} (Theory.upd (λ r. h (doing r) (getD lanes r rest)) q (h d l)) (λ r. h (Theory.upd doing q d r) (getD (set lanes q l) r rest))
-  lane-set = λ z r. at r (ℕ-discrete r q) z
+module _ (doing : ℕ → Doing) (lanes : List Lane) (q : ℕ) (d : Doing) (l : Lane) (inside : q < length lanes) where
+  pub lane-set : {B : Type 0} (h : Doing → Lane → B) → _≡_ {A = ℕ → B} (Theory.upd (λ r. h (doing r) (getD lanes r rest)) q (h d l)) (λ r. h (Theory.upd doing q d r) (getD (set lanes q l) r rest))
+  lane-set h = λ z r. at r (ℕ-discrete r q) z
     where
       at : (r : ℕ) → Dec (r ≡ q) → Theory.upd (λ r. h (doing r) (getD lanes r rest)) q (h d l) r ≡ h (Theory.upd doing q d r) (getD (set lanes q l) r rest)
       at r (yes e) =

@@ -1,0 +1,215 @@
+-- A step keeps what is good.
+-- Assumes nothing.
+use Prim.Native.Nat.{ℕ, suc, _+_, _<_}
+use mathlib.Core.Path.{_≡_, refl, sym, ap, _∙_, subst}
+use mathlib.Core.List.{List, _∷_}
+use native.Mathlib.Decide.{ℕ-discrete}
+use native.Mathlib.Numerals.{add-one}
+use native.Mathlib.Omega.{arith}
+use lib.ListN.{length, getD, set, length-set}
+use lib.Seq.{getD-set-same}
+use Rattle.numbers.specs.Numbers.{offsetOf}
+use Rattle.lanes.specs.declared.Op.{Op}
+use Rattle.lanes.specs.declared.Op.the-variants as Op
+use Rattle.lanes.specs.declared.Lane.{Lane}
+use Rattle.lanes.specs.declared.State.{State}
+use Rattle.lanes.specs.Ranges.{laneOf}
+use Rattle.steps.specs.Memory.{Memory}
+use Rattle.steps.specs.declared.Change.{Change}
+use Rattle.steps.specs.declared.Change.the-variants as Change
+use Rattle.steps.specs.declared.Next.{Next}
+use Rattle.steps.specs.declared.Next.the-variants as Next
+use Rattle.steps.specs.declared.Turn.the-variants as Turn
+use Rattle.steps.specs.Changes.{laneAfter, topAfter, memoryAfter}
+use Rattle.grid.specs.declared.Ask.{Ask}
+use Rattle.grid.specs.Calls.{cellOf, advance, answerOf, settled}
+use Rattle.theory.specs.Interface as Theory
+use Rattle.demands.specs.Book.{Doing, nothing, busy, Book, kindOf, counted, finished, noteStep}
+use Rattle.demands.specs.Agrees.{LaneAgrees}
+use Rattle.demands.specs.Shadow.{gridOf, linkOf, stageOf, laneFor, sinceOf, takenOf, changeOf, nextOf, memOf, wordsOf, shadow}
+use Rattle.demands.specs.ShadowLaws.{list-set, lane-set, lane-all}
+use Rattle.demands.specs.Good.{Held, Lengths, Good, law, inside, behind, at-work, does}
+use Rattle.demands.specs.Goes.{Stores, Carries, turnAs, memory, Goes}
+use Rattle.demands.specs.Keep.{field-set, field-same}
+
+-- ---- what the book has after a step
+
+abbrev pub doingAfter : ℕ → Ask → ℕ → Next → Doing
+doingAfter began a taken (Next.Going o) = busy began a (suc taken)
+doingAfter began a taken (Next.Read v) = nothing
+doingAfter began a taken Next.Written = nothing
+doingAfter began a taken (Next.Asked t) = nothing
+
+abbrev pub endedAfter : Book → ℕ → ℕ → Ask → Next → List Theory.Done
+endedAfter b q began a (Next.Going o) = b .ended
+endedAfter b q began a (Next.Read v) = finished b q began a (Theory.got v) ∷ b .ended
+endedAfter b q began a Next.Written = finished b q began a Theory.done ∷ b .ended
+endedAfter b q began a (Next.Asked t) = finished b q began a (Theory.told t) ∷ b .ended
+
+abbrev pub bookAfter : Book → ℕ → ℕ → Ask → ℕ → Next → Book
+bookAfter b q began a taken next = counted b q (doingAfter began a taken next) (endedAfter b q began a next)
+
+pub note-step : (b : Book) (q n : ℕ) {began taken : ℕ} {a : Ask} (next : Next) → b .doing q ≡ busy began a taken
+    → noteStep b q (answerOf n next) ≡ bookAfter b q began a taken next
+note-step b q n (Next.Going o) e = rw e
+note-step b q n (Next.Read v) e = rw e
+note-step b q n Next.Written e = rw e
+note-step b q n (Next.Asked t) e = rw e
+
+-- ---- what a step leaves of the lengths and of its lane
+
+keeps-lengths : {p m : ℕ} {mem : Memory} (change : Change) → Lengths p m mem → Lengths p m (memoryAfter change mem)
+keeps-lengths Change.Nothing L = L
+keeps-lengths {mem = mem} (Change.Reading i v) L = record { readings = length-set (mem .readings) (i .0) v ∙ L .readings; links = L .links; directory = L .directory; pool = L .pool }
+keeps-lengths {mem = mem} (Change.Link i w) L = record { readings = L .readings; links = length-set (mem .links) (i .0) w ∙ L .links; directory = L .directory; pool = L .pool }
+keeps-lengths {mem = mem} (Change.Directory k start) L = record { readings = L .readings; links = L .links; directory = length-set (mem .directory) k start ∙ L .directory; pool = L .pool }
+keeps-lengths {mem = mem} (Change.Mark start n mark) L = record { readings = L .readings; links = L .links; directory = L .directory; pool = length-set (mem .pool) (start + offsetOf (n .0)) mark ∙ L .pool }
+keeps-lengths (Change.Marks n) L = L
+keeps-lengths (Change.Top top drawn) L = L
+
+advanced : (next : Next) (l : Lane) → (advance next l .marks ≡ l .marks) × (advance next l .drawn ≡ l .drawn)
+advanced (Next.Going o) l = (refl, refl)
+advanced (Next.Read v) l = (refl, refl)
+advanced Next.Written l = (refl, refl)
+advanced (Next.Asked t) l = (refl, refl)
+
+steps-same : (change : Change) (l : Lane) → laneAfter change l .steps ≡ l .steps
+steps-same Change.Nothing l = refl
+steps-same (Change.Reading i v) l = refl
+steps-same (Change.Link i w) l = refl
+steps-same (Change.Directory k start) l = refl
+steps-same (Change.Mark start n mark) l = refl
+steps-same (Change.Marks n) l = refl
+steps-same (Change.Top top drawn) l = refl
+
+agrees-after : (a : Ask) (began taken x : ℕ) (next : Next) (l : Lane) → l .steps ≡ taken → Carries a x next → LaneAgrees (advance next l) (doingAfter began a taken next)
+agrees-after a began taken x (Next.Going o) l e c = (c .0, omega arith)
+agrees-after a began taken x (Next.Read v) l e c = (refl, refl)
+agrees-after a began taken x Next.Written l e c = (refl, refl)
+agrees-after a began taken x (Next.Asked t) l e c = (refl, refl)
+
+held-after : (a : Ask) (x : ℕ) (next : Next) (l : Lane) → Carries a x next → Held (advance next l .op) x
+held-after a x (Next.Going o) l c = c .1
+held-after a x (Next.Read v) l c = tt
+held-after a x Next.Written l c = tt
+held-after a x (Next.Asked t) l c = tt
+
+lane-after : (a : Ask) (began taken : ℕ) (next : Next) (l : Lane) → Theory.nextLane (kindOf a) (cellOf a .0) (nextOf next) ≡ laneFor (doingAfter began a taken next) (advance next l .op)
+lane-after a began taken (Next.Going o) l = refl
+lane-after a began taken (Next.Read v) l = refl
+lane-after a began taken Next.Written l = refl
+lane-after a began taken (Next.Asked t) l = refl
+
+module _ {s : State} {mem : Memory} {b : Book} (H : Good s mem b) (q : ℕ) {began taken : ℕ} {a : Ask} (e : b .doing q ≡ busy began a taken) (g : Goes H q a (laneOf s q .op)) where
+  abbrev pub steppedLane : Lane
+  steppedLane = advance (g .next) (laneAfter (g .change) (laneOf s q))
+
+  abbrev pub steppedState : State
+  steppedState = settled s q steppedLane (topAfter (g .change) (s .top))
+
+  abbrev pub steppedMemory : Memory
+  steppedMemory = memoryAfter (g .change) mem
+
+  abbrev pub steppedBook : Book
+  steppedBook = bookAfter b q began a taken (g .next)
+
+  pub own : q < s .p
+  own = Theory.process-fits (law H) (H .whole) q (at-work H q e)
+
+  -- the shared words after a change
+  mem-path : (change : Change) (next : Next) → Stores mem change
+      → Theory.poke (memory H q) q (changeOf change) ≡ memOf (settled s q (advance next (laneAfter change (laneOf s q))) (topAfter change (s .top))) (memoryAfter change mem) (Theory.poke (memory H q) q (changeOf change) .marks)
+  mem-path change next h = by change h
+    where
+      l : Change → Lane
+      l c = advance next (laneAfter c (laneOf s q))
+
+      force : (c : Change) → laneAfter c (laneOf s q) .marks ≡ laneOf s q .marks → (λ r. laneOf s r .marks) ≡ memOf (settled s q (l c) 0) mem (H .marks) .inForce
+      force c k = field-same H q own (l c) (λ l. l .marks) (advanced next (laneAfter c (laneOf s q)) .0 ∙ k)
+
+      drew : (c : Change) → laneAfter c (laneOf s q) .drawn ≡ laneOf s q .drawn → (λ r. laneOf s r .drawn) ≡ memOf (settled s q (l c) 0) mem (H .marks) .drawn
+      drew c k = field-same H q own (l c) (λ l. l .drawn) (advanced next (laneAfter c (laneOf s q)) .1 ∙ k)
+
+      by : (c : Change) → Stores mem c
+          → Theory.poke (memory H q) q (changeOf c) ≡ memOf (settled s q (advance next (laneAfter c (laneOf s q))) (topAfter c (s .top))) (memoryAfter c mem) (Theory.poke (memory H q) q (changeOf c) .marks)
+      by Change.Nothing h = λ z. record { reading = memory H q .reading; link = memory H q .link; inForce = force Change.Nothing refl z; drawn = drew Change.Nothing refl z; marks = H .marks }
+      by (Change.Reading i v) h = λ z. record { reading = list-set (λ x. x) (mem .readings) (i .0) v 0 h z; link = memory H q .link; inForce = force (Change.Reading i v) refl z; drawn = drew (Change.Reading i v) refl z; marks = H .marks }
+      by (Change.Link i w) h = λ z. record { reading = memory H q .reading; link = list-set linkOf (mem .links) (i .0) w 0 h z; inForce = force (Change.Link i w) refl z; drawn = drew (Change.Link i w) refl z; marks = H .marks }
+      by (Change.Directory k start) h = λ z. record { reading = memory H q .reading; link = memory H q .link; inForce = force (Change.Directory k start) refl z; drawn = drew (Change.Directory k start) refl z; marks = H .marks }
+      by (Change.Mark start n mark) h = λ z. record { reading = memory H q .reading; link = memory H q .link; inForce = force (Change.Mark start n mark) refl z; drawn = drew (Change.Mark start n mark) refl z; marks = Theory.poke (memory H q) q (Theory.setMark (n .0) mark) .marks }
+      by (Change.Marks n) h = λ z. record { reading = memory H q .reading; link = memory H q .link; inForce = field-set H q own (l (Change.Marks n)) (λ l. l .marks) n (advanced next (laneAfter (Change.Marks n) (laneOf s q)) .0) z; drawn = drew (Change.Marks n) refl z; marks = H .marks }
+      by (Change.Top t d) h = λ z. record { reading = memory H q .reading; link = memory H q .link; inForce = force (Change.Top t d) refl z; drawn = field-set H q own (l (Change.Top t d)) (λ l. l .drawn) d (advanced next (laneAfter (Change.Top t d) (laneOf s q)) .1) z; marks = H .marks }
+
+  ended-path : (next : Next) → Theory.finish (behind H .watch) q (kindOf a) (cellOf a .0) (nextOf next) ≡ endedAfter b q began a next
+  ended-path (Next.Going o) = refl
+  ended-path (Next.Read v) = ap (λ (d : Doing). finished b q (sinceOf d) a (Theory.got v) ∷ b .ended) e
+  ended-path Next.Written = ap (λ (d : Doing). finished b q (sinceOf d) a Theory.done ∷ b .ended) e
+  ended-path (Next.Asked t) = ap (λ (d : Doing). finished b q (sinceOf d) a (Theory.told t) ∷ b .ended) e
+
+  abbrev after : Theory.Run
+  after = record {
+    watch = Theory.stepped (behind H .watch) q (kindOf a) (cellOf a .0) (turnAs (Turn.Turned (g .change) (g .next)));
+    words = Theory.wordsAfter (gridOf s) (behind H .words) q (cellOf a .0) (stageOf (laneOf s q .op));
+    tally = behind H .tally;
+    taken = Theory.upd (behind H .taken) q (suc (behind H .taken q));
+  }
+
+  stepped-whole : Theory.Whole (gridOf s) after
+  stepped-whole =
+      subst (λ (t : Theory.Turn). Theory.Whole (gridOf s) (record { watch = Theory.stepped (behind H .watch) q (kindOf a) (cellOf a .0) t; words = after .words; tally = after .tally; taken = after .taken })) (g .same)
+      (Theory.whole-step (law H) (H .whole) q (at-work H q e))
+
+  -- the book forgets when a finished operation began and how many steps it took; the theory need not
+  forgotten : (r : ℕ) (o : Theory.Op) (i : ℕ) (x : Theory.Stage) → after .watch .lane r ≡ Theory.busy o i x
+      → (sinceOf (steppedBook .doing r) ≡ after .watch .since r) × (takenOf (steppedBook .doing r) ≡ after .taken r)
+  forgotten r o i x k = by (ℕ-discrete r q)
+    where
+      own-lane : (next : Next) → Theory.nextLane (kindOf a) (cellOf a .0) (nextOf next) ≡ Theory.busy o i x
+          → (sinceOf (doingAfter began a taken next) ≡ sinceOf (b .doing q)) × (takenOf (doingAfter began a taken next) ≡ suc (takenOf (b .doing q)))
+      own-lane (Next.Going o) k = rw e (refl, refl)
+      own-lane (Next.Read v) k = absurd (let y : _≡_ {A = ℕ} 0 1 = cc in omega arith)
+      own-lane Next.Written k = absurd (let y : _≡_ {A = ℕ} 0 1 = cc in omega arith)
+      own-lane (Next.Asked t) k = absurd (let y : _≡_ {A = ℕ} 0 1 = cc in omega arith)
+
+      by : Dec (r ≡ q) → (sinceOf (steppedBook .doing r) ≡ after .watch .since r) × (takenOf (steppedBook .doing r) ≡ after .taken r)
+      by (yes is) =
+          let lane : after .watch .lane q ≡ Theory.busy o i x = subst (λ (j : ℕ). after .watch .lane j ≡ Theory.busy o i x) is k in
+          let h = own-lane (g .next) (sym (Theory.upd-same (behind H .watch .lane) q _) ∙ lane) in
+          rw (is, Theory.upd-same (b .doing) q (doingAfter began a taken (g .next)), Theory.upd-same (behind H .taken) q (suc (behind H .taken q))) h
+      by (no ne) = rw (Theory.upd-other (b .doing) q (doingAfter began a taken (g .next)) r ne, Theory.upd-other (behind H .taken) q (suc (behind H .taken q)) r ne) (refl, refl)
+
+  step-path : _≡_ {A = Theory.Run}
+      (record {
+        watch = record { mem = after .watch .mem; lane = after .watch .lane; now = suc (b .now); since = λ r. sinceOf (steppedBook .doing r); ended = after .watch .ended };
+        words = after .words;
+        tally = after .tally;
+        taken = λ r. takenOf (steppedBook .doing r);
+      })
+      (shadow steppedState steppedMemory steppedBook (after .watch .mem .marks) (Theory.upd (H .held) q (g .start)))
+  step-path = λ z. record {
+    watch = record {
+      mem = mem-path (g .change) (g .next) (g .stores) z;
+      lane = (ap (Theory.upd (behind H .watch .lane) q) (lane-after a began taken (g .next) (laneAfter (g .change) (laneOf s q))) ∙ lane-set (b .doing) (s .lanes) q (doingAfter began a taken (g .next)) steppedLane (inside H q own) (λ d l. laneFor d (l .op))) z;
+      now = suc (b .now);
+      since = λ r. sinceOf (steppedBook .doing r);
+      ended = ended-path (g .next) z;
+    };
+    words = g .words z;
+    tally = behind H .tally;
+    taken = λ r. takenOf (steppedBook .doing r);
+  }
+
+  pub good-step : Good steppedState steppedMemory steppedBook
+  good-step = record {
+    bounds = H .bounds;
+    lanes = length-set (s .lanes) q steppedLane ∙ H .lanes;
+    lengths = keeps-lengths (g .change) (H .lengths);
+    agrees = lane-all (b .doing) (s .lanes) q (doingAfter began a taken (g .next)) steppedLane (inside H q own) (λ r d l. LaneAgrees l d)
+        (agrees-after a began taken (g .start) (g .next) (laneAfter (g .change) (laneOf s q)) (steps-same (g .change) (laneOf s q) ∙ does H q e .1) (g .carries)) (λ r ne. H .agrees r);
+    marks = after .watch .mem .marks;
+    held = Theory.upd (H .held) q (g .start);
+    holds = lane-all (b .doing) (s .lanes) q (doingAfter began a taken (g .next)) steppedLane (inside H q own) (λ r d l. Held (l .op) (Theory.upd (H .held) q (g .start) r))
+        (rw (Theory.upd-same (H .held) q (g .start)) (held-after a (g .start) (g .next) (laneAfter (g .change) (laneOf s q)) (g .carries))) (λ r ne. rw (Theory.upd-other (H .held) q (g .start) r ne) (H .holds r));
+    whole = subst (λ (R : Theory.Run). Theory.Whole (gridOf s) R) step-path
+        (Theory.whole-rest (law H) stepped-whole (suc (b .now)) (λ r. sinceOf (steppedBook .doing r)) (λ r. takenOf (steppedBook .doing r)) (omega arith) forgotten);
+  }
