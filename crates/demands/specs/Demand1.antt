@@ -4,7 +4,7 @@
 use Prim.Native.Nat.{ℕ}
 use mathlib.Core.Path.{_≡_}
 use mathlib.Core.Bool.{Bool, true, false, not}
-use mathlib.Core.List.{List, [], _∷_, _++_}
+use mathlib.Core.List.{List, [], _∷_}
 use Rattle.refusals.specs.Orders.{Rule, _gives_, orders}
 use Rattle.refusals.specs.declared.Refusal.{Refusal}
 use Rattle.refusals.specs.declared.Refusal.the-variants as Refusal
@@ -41,15 +41,17 @@ kind (Answer.Refused r) = refused r
 abbrev pub beginTable : State → ℕ → Ask → List Rule
 beginTable s q a = beginRefusals (stateFits s) (s .p) (s .m) q (laneOf s q) a
 
--- Step: 9 (state), 8, 4, 7, 9 (word, draw or new number).
+-- Step: 9 (state), 8, 4, 7,
+abbrev pub stepTable : State → ℕ → Memory → List Rule
+stepTable s q mem = stepRefusals (stateFits s) (s .p) (s .m) mem q (laneOf s q)
+
+-- then 9 (word, draw or new number): what the step list says for this step can't be done within the ranges.
 abbrev pub moves : Verdict → Bool
 moves (Verdict.Refused r) = false
 moves (Verdict.Moved change next) = true
 
-abbrev pub stepTable : State → ℕ → Memory → List Rule
-stepTable s q mem =
-    stepRefusals (stateFits s) (s .p) (s .m) mem q (laneOf s q)
-    ++ (not (moves (decided (sizesOf s) (laneOf s q) (turnOf (sizesOf s) q (laneOf s q) (seenBy s q) mem))) gives Refusal.OutOfRange ∷ [])
+abbrev pub wordTable : State → ℕ → Memory → List Rule
+wordTable s q mem = not (moves (decided (sizesOf s) (laneOf s q) (turnOf (sizesOf s) q (laneOf s q) (seenBy s q) mem))) gives Refusal.OutOfRange ∷ []
 
 abbrev pub refusedOn : State → Refusal → Stepped
 refusedOn s r = record { state = s; answer = Answer.Refused r }
@@ -57,7 +59,7 @@ refusedOn s r = record { state = s; answer = Answer.Refused r }
 pub record Demand1 (M : Machine) : Type 0 where
   -- the first refusal that holds is given, and none where none holds
   pub begin-table : (s : State) (q : ℕ) (a : Ask) → kind (M .begin s q a .answer) ≡ orders refused (beginTable s q a) begins
-  pub step-table : (s : State) (q : ℕ) (mem : Memory) → kind (M .step s q mem .stepped .answer) ≡ orders refused (stepTable s q mem) steps
+  pub step-table : (s : State) (q : ℕ) (mem : Memory) → kind (M .step s q mem .stepped .answer) ≡ orders refused (stepTable s q mem) (orders refused (wordTable s q mem) steps)
   -- a refused call returns the state as received, and every lent word as it was
   pub begin-refused : (s : State) (q : ℕ) (a : Ask) (r : Refusal) → M .begin s q a .answer ≡ Answer.Refused r → M .begin s q a ≡ refusedOn s r
   pub step-refused : (s : State) (q : ℕ) (mem : Memory) (r : Refusal)

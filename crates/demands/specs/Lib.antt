@@ -13,3 +13,5 @@ pub mod Looks
 pub mod Writes
 pub mod Keep
 pub mod KeepStep
+pub mod Refused
+pub mod Views
