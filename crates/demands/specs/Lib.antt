@@ -15,3 +15,4 @@ pub mod Keep
 pub mod KeepStep
 pub mod Refused
 pub mod Views
+pub mod Proved
