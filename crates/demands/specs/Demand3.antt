@@ -50,3 +50,7 @@ Counted M r = (q : ℕ) → Counts (r .book .doing q) (M .step (r .world .state)
 -- `cells` and `procs` are 1 or 0: their sums count the different cells and loaders.
 abbrev pub PoolSpent : ℕ → ℕ → Run → Type 0
 PoolSpent p m r = r .world .state .top ≤ 4 * sum (r .book .cells) m + 2 * sum (r .book .procs) p
+
+-- "So a pool of 4 per cell plus 2 per loader never runs short."
+abbrev pub PoolSuffices : ℕ → ℕ → Run → Type 0
+PoolSuffices p m r = r .world .state .top ≤ 4 * m + 2 * p

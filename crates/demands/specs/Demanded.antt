@@ -18,7 +18,7 @@ use Rattle.demands.specs.Book.{Doing, nothing, busy, Book, Run, run, sta
 use Rattle.demands.specs.Agrees.{Agrees}
 use Rattle.demands.specs.Demand1.{Kind, refused, begins, steps, kind, Demand1, OpenTable}
 use Rattle.demands.specs.Demand2.{ByTheList, OneOrder}
-use Rattle.demands.specs.Demand3.{Counted, PoolSpent}
+use Rattle.demands.specs.Demand3.{Counted, PoolSpent, PoolSuffices}
 
 -- REFUSALS IN A RUN, from the book
 abbrev pub isBusy : Doing → Bool
@@ -41,6 +41,7 @@ pub record Meets (M : Machine) (p m first stride : ℕ) (r : Run) : Type 0 where
   pub one-order : OneOrder (fillOf first stride) (r .book)
   pub counted : Counted M r
   pub pool-spent : PoolSpent p m r
+  pub pool-suffices : PoolSuffices p m r
   pub refusals : (c : Call p m) → kind (answerTo M (r .world) c) ≡ expected (r .book) c
   pub never-nine : (c : Call p m) → answerTo M (r .world) c ≢ Answer.Refused Refusal.OutOfRange
 

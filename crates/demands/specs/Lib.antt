@@ -16,3 +16,5 @@ pub mod KeepStep
 pub mod Refused
 pub mod Views
 pub mod Proved
+pub mod Vanish
+pub mod Theorems

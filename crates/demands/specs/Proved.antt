@@ -38,7 +38,7 @@ use Rattle.demands.specs.Demand2.{Unfinished, OneOrder}
 use Rattle.demands.specs.Demand3.{mostSteps, Answers, Counts, Counted}
 use Rattle.demands.specs.Demanded.{isBusy, expected, Meets, Demanded}
 use Rattle.demands.specs.Shadow.{gridOf, linkOf, laneFor, sinceOf, startsIn, shadow}
-use Rattle.demands.specs.Good.{Bounds, Lengths, Good, law, behind, does, few-steps}
+use Rattle.demands.specs.Good.{Bounds, Lengths, Good, law, behind, does, few-steps, top-fits}
 use Rattle.demands.specs.Goes.{Goes}
 use Rattle.demands.specs.KeepStep.{doingAfter, good-step}
 use Rattle.demands.specs.Refused.{a-refusal-changes-nothing, opens-by-table, no-refusal}
@@ -154,6 +154,7 @@ meets r H = record {
   one-order = one-order H;
   counted = counted-steps H;
   pool-spent = Theory.pool-bound (law H) (H .whole);
+  pool-suffices = top-fits H;
   refusals = refusals H;
   never-nine = λ c e. expected-nine (r .book) c (sym (refusals H c) ∙ ap kind e);
 }
