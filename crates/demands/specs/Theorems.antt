@@ -36,7 +36,7 @@ first-stands-first {f} O d e md me before =
     Theory.real-time-order f (O .order) (O .orderly) (D .0) (E .0) (D .1) (E .1) d e (D .2) (E .2) before
 
 -- Demands 2 and 3, after any calls on an opened grid.
-module _ {p m first stride : ℕ} {mem : Memory} (ok : Accepted p m first stride mem) (calls : List (Call p m)) where
+module _ (p m first stride : ℕ) (mem : Memory) (ok : Accepted p m first stride mem) (calls : List (Call p m)) where
   abbrev pub after : Run
   after = run grid (start (openedWorld p m first stride mem)) calls
 
