@@ -18,3 +18,4 @@ pub mod Views
 pub mod Proved
 pub mod Vanish
 pub mod Theorems
+pub mod Histories

@@ -1,0 +1,215 @@
+-- Histories: calls with their answers. One in which a reading vanishes has no one order: a test that computes.
+-- Assumes nothing.
+use Prim.Native.Nat.{ℕ, _<_}
+use mathlib.Core.Path.{_≡_, refl, sym, ap, _∙_, subst}
+use mathlib.Core.Logic.{_⊎_, inl, inr, _≢_}
+use mathlib.Core.Bool.{Bool, true, false, not, _&&_}
+use mathlib.Core.List.{List, [], _∷_, List·Memᴰ, List·Memᴰ·head, List·Memᴰ·tail, List·Memᴰ·cases-cons}
+use native.Mathlib.Decide.{ℕ-discrete}
+use native.Mathlib.Omega.{arith}
+use borrow.Author.Tests.{ltb-true, eqb-true, eq-eqb}
+use lib.Dec.{ltb, eqb}
+use Rattle.refusals.specs.Orders.{pick}
+use Rattle.lanes.specs.Laws.{and-left, and-right}
+use Rattle.grid.specs.declared.Ask.{Ask}
+use Rattle.grid.specs.declared.Ask.the-variants as Ask
+use Rattle.grid.specs.declared.Answer.{Answer}
+use Rattle.grid.specs.declared.Answer.the-variants as Answer
+use Rattle.grid.specs.Calls.{cellOf}
+use Rattle.theory.specs.Interface as Theory
+use Rattle.theory.specs.Interface.{Op, write, Ans, got, told, done, Done}
+use Rattle.demands.specs.Calls.{Machine, Call, begin, step, misfit, World, answerTo, worldAfter}
+use Rattle.demands.specs.Book.{Doing, nothing, busy, Book, blank, kindOf, noteBegin, noteStep, goesOn, ends, noted, Run, run}
+use Rattle.demands.specs.Demand2.{OneOrder}
+use Rattle.demands.specs.Vanish.{Shows, Wrote, once, still, Knows, nothing-vanishes}
+
+-- A call, and what was answered.
+pub record Heard (p m : ℕ) : Type 0 where
+  pub call : Call p m
+  pub answer : Answer
+
+abbrev pub hear : {p m : ℕ} → Call p m → Answer → Heard p m
+hear c x = record { call = c; answer = x }
+
+-- The book kept of a history, and the history of a machine.
+unfoldable pub recount : {p m : ℕ} → Book → List (Heard p m) → Book
+recount b [] = b
+recount b (h ∷ hs) = recount (noted b (h .call) (h .answer)) hs
+
+unfoldable pub history : {p m : ℕ} → Machine → World → List (Call p m) → List (Heard p m)
+history M w [] = []
+history M w (c ∷ cs) = hear c (answerTo M w c) ∷ history M (worldAfter M w c) cs
+
+pub run-book : {p m : ℕ} (M : Machine) (r : Run) (cs : List (Call p m)) → run M r cs .book ≡ recount (r .book) (history M (r .world) cs)
+unfolding run recount history
+run-book M r [] = refl
+run-book M r (c ∷ cs) = run-book M (record { world = worldAfter M (r .world) c; book = noted (r .book) c (answerTo M (r .world) c) }) cs
+
+-- ---- nobody asks to write x in cell i
+
+abbrev pub asks : ℕ → ℕ → Ask → Bool
+asks i x (Ask.Read c) = false
+asks i x (Ask.Write c v) = eqb v x && eqb (c .0) i
+asks i x (Ask.Asked c) = false
+
+abbrev pub quietCall : {p m : ℕ} → ℕ → ℕ → Call p m → Bool
+quietCall i x (begin q a) = not (asks i x a)
+quietCall i x (step q) = true
+quietCall i x (misfit q mem h) = true
+
+unfoldable pub quiet : {p m : ℕ} → ℕ → ℕ → List (Heard p m) → Bool
+quiet i x [] = true
+quiet i x (h ∷ hs) = quietCall i x (h .call) && quiet i x hs
+
+module _ (i x : ℕ) where
+  abbrev Other : Op → ℕ → Type 0
+  Other o c = o ≡ write x → c ≡ i → ⊥
+
+  abbrev Still : Doing → Type 0
+  Still nothing = Unit {0}
+  Still (busy began a taken) = Other (kindOf a) (cellOf a .0)
+
+  record Quiet (b : Book) : Type 0 where
+    ended : (d : Done) → List·Memᴰ d (b .ended) → Other (d .op) (d .cell)
+    doing : (q : ℕ) → Still (b .doing q)
+
+  other : (a : Ask) → not (asks i x a) ≡ true → Other (kindOf a) (cellOf a .0)
+  other (Ask.Read c) h e k = let y : _≡_ {A = ℕ} 0 1 = cc in omega arith
+  other (Ask.Asked c) h e k = let y : _≡_ {A = ℕ} 0 1 = cc in omega arith
+  other (Ask.Write c v) h e k =
+      let v-is : v ≡ x = cc in
+      let z : false ≡ true = rw (eq-eqb v x v-is, eq-eqb (c .0) i k) at h in
+      absurd (let y : _≡_ {A = ℕ} 0 1 = cc in omega arith)
+
+  doing-upd : (f : ℕ → Doing) (q : ℕ) (d : Doing) → Still d → ((r : ℕ) → Still (f r)) → (r : ℕ) → Still (Theory.upd f q d r)
+  doing-upd f q d h k r = by (ℕ-discrete r q)
+    where
+      by : Dec (r ≡ q) → Still (Theory.upd f q d r)
+      by (yes e) = rw (e, Theory.upd-same f q d) h
+      by (no e) = rw (Theory.upd-other f q d r e) (k r)
+
+  -- an answer of any kind keeps the book quiet
+  pass-quiet : {b : Book} → Quiet b → Quiet (Rattle.demands.specs.Book.passed b)
+  pass-quiet Q = record { ended = Q .ended; doing = Q .doing }
+
+  goes-quiet : {b : Book} (q : ℕ) (d : Doing) → Still d → Quiet b → Quiet (goesOn b q d)
+  goes-quiet q nothing s Q = pass-quiet Q
+  goes-quiet {b} q (busy began a taken) s Q = record { ended = Q .ended; doing = doing-upd (b .doing) q _ s (Q .doing) }
+
+  ends-quiet : {b : Book} (q : ℕ) (d : Doing) (y : Ans) → Still d → Quiet b → Quiet (ends b q d y)
+  ends-quiet q nothing y s Q = pass-quiet Q
+  ends-quiet {b} q (busy began a taken) y s Q = record {
+    ended = λ d m. by d (List·Memᴰ·cases-cons m);
+    doing = doing-upd (b .doing) q nothing tt (Q .doing);
+  }
+    where
+      by : (d : Done) → (d ≡ Rattle.demands.specs.Book.finished b q began a y) ⊎ List·Memᴰ d (b .ended) → Other (d .op) (d .cell)
+      by d (inl e) = rw e s
+      by d (inr m) = Q .ended d m
+
+  begin-quiet : {b : Book} (q : ℕ) (a : Ask) (y : Answer) → Other (kindOf a) (cellOf a .0) → Quiet b → Quiet (noteBegin b q a y)
+  begin-quiet {b} q a Answer.Begun s Q = record { ended = Q .ended; doing = doing-upd (b .doing) q _ s (Q .doing) }
+  begin-quiet q a Answer.Going s Q = pass-quiet Q
+  begin-quiet q a (Answer.Read v n) s Q = pass-quiet Q
+  begin-quiet q a (Answer.Written n) s Q = pass-quiet Q
+  begin-quiet q a (Answer.Asked t n) s Q = pass-quiet Q
+  begin-quiet q a (Answer.Refused r) s Q = pass-quiet Q
+
+  step-quiet : {b : Book} (q : ℕ) (y : Answer) → Quiet b → Quiet (noteStep b q y)
+  step-quiet q Answer.Begun Q = pass-quiet Q
+  step-quiet {b} q Answer.Going Q = goes-quiet q (b .doing q) (Q .doing q) Q
+  step-quiet {b} q (Answer.Read v n) Q = ends-quiet q (b .doing q) (got v) (Q .doing q) Q
+  step-quiet {b} q (Answer.Written n) Q = ends-quiet q (b .doing q) done (Q .doing q) Q
+  step-quiet {b} q (Answer.Asked t n) Q = ends-quiet q (b .doing q) (told t) (Q .doing q) Q
+  step-quiet q (Answer.Refused r) Q = pass-quiet Q
+
+  call-quiet : {p m : ℕ} {b : Book} (c : Call p m) (y : Answer) → quietCall i x c ≡ true → Quiet b → Quiet (noted b c y)
+  call-quiet (begin q a) y h Q = begin-quiet q a y (other a h) Q
+  call-quiet (step q) y h Q = step-quiet q y Q
+  call-quiet (misfit q mem k) y h Q = step-quiet q y Q
+
+  stays-quiet : {p m : ℕ} (b : Book) (hs : List (Heard p m)) → quiet i x hs ≡ true → Quiet b → Quiet (recount b hs)
+  unfolding recount quiet
+  stays-quiet b [] k Q = Q
+  stays-quiet b (h ∷ hs) k Q =
+      stays-quiet (noted b (h .call) (h .answer)) hs (and-right (quietCall i x (h .call)) (quiet i x hs) k)
+      (call-quiet (h .call) (h .answer) (and-left (quietCall i x (h .call)) (quiet i x hs) k) Q)
+
+  not-wrote : {b : Book} → Quiet b → Wrote b i x → ⊥
+  not-wrote Q (once d m o c) = Q .ended d m o c
+  not-wrote Q (still q began taken c e k) = subst Still e (Q .doing q) refl k
+
+-- ---- the test
+
+abbrev pub any : (Done → Bool) → List Done → Bool
+any P [] = false
+any P (d ∷ ds) = pick (P d) true (any P ds)
+
+found : (P : Done → Bool) (ds : List Done) → any P ds ≡ true → (d : Done) × List·Memᴰ d ds × (P d ≡ true)
+found P [] h = absurd (let y : _≡_ {A = ℕ} 0 1 = cc in omega arith)
+found P (d ∷ ds) h = by (P d) refl h (found P ds)
+  where
+    by : (t : Bool) → P d ≡ t → pick t true (any P ds) ≡ true → (any P ds ≡ true → (e : Done) × List·Memᴰ e ds × (P e ≡ true)) → (e : Done) × List·Memᴰ e (d ∷ ds) × (P e ≡ true)
+    by true k h ih = (d, List·Memᴰ·head refl, k)
+    by false k h ih = let r = ih h in (r .0, List·Memᴰ·tail (r .1), r .2)
+
+-- an answer shows a cell written that held y at first; an answer has it hold x, or be empty
+abbrev pub shows : ℕ → Ans → Bool
+shows y (got x) = not (eqb x y)
+shows y (told t) = t
+shows y done = true
+
+abbrev pub denies : ℕ → Ans → Bool
+denies x (got v) = eqb v x
+denies x (told t) = not t
+denies x done = false
+
+abbrev pub later : ℕ → ℕ → Done → Done → Bool
+later i x d e = ltb (d .ended) (e .began) && (eqb (e .cell) i && denies x (e .ans))
+
+abbrev pub earlier : ℕ → ℕ → ℕ → List Done → Done → Bool
+earlier y i x ds d = eqb (d .cell) i && (shows y (d .ans) && any (later i x d) ds)
+
+-- cell i was shown written, and an operation that began later found x in it, which nobody wrote there, or nothing
+abbrev pub vanished : ℕ → ℕ → ℕ → List Done → Bool
+vanished y i x ds = any (earlier y i x ds) ds
+
+pub no-one-order : {p m : ℕ} (f : ℕ → ℕ) (i x : ℕ) (hs : List (Heard p m)) → quiet i x hs ≡ true → vanished (f i) i x (recount blank hs .ended) ≡ true
+    → OneOrder f (recount blank hs) → ⊥
+no-one-order f i x hs q v O = denied (e .0 .ans) (knows) (and-right (eqb (e .0 .cell) i) (denies x (e .0 .ans)) (and-right (ltb (d .0 .ended) (e .0 .began)) _ (e .2)))
+  where
+    b : Book
+    b = recount blank hs
+
+    Q : Quiet i x b
+    Q = stays-quiet i x blank hs q (record { ended = λ d m. elim m [ ]; doing = λ q. tt })
+
+    d : (d : Done) × List·Memᴰ d (recount blank hs .ended) × (earlier (f i) i x (recount blank hs .ended) d ≡ true)
+    d = found (earlier (f i) i x (recount blank hs .ended)) (recount blank hs .ended) v
+
+    e : (e : Done) × List·Memᴰ e (recount blank hs .ended) × (later i x (d .0) e ≡ true)
+    e = found (later i x (d .0)) (recount blank hs .ended) (and-right (shows (f i) (d .0 .ans)) _ (and-right (eqb (d .0 .cell) i) _ (d .2)))
+
+    d-cell : d .0 .cell ≡ i
+    d-cell = eqb-true (d .0 .cell) i (and-left (eqb (d .0 .cell) i) _ (d .2))
+
+    e-cell : e .0 .cell ≡ i
+    e-cell = eqb-true (e .0 .cell) i (and-left (eqb (e .0 .cell) i) (denies x (e .0 .ans)) (and-right (ltb (d .0 .ended) (e .0 .began)) _ (e .2)))
+
+    showed : (a : Ans) → shows (f i) a ≡ true → Shows (f i) a
+    showed (got v) h = λ k. let z : false ≡ true = rw (eq-eqb v (f i) k) at h in absurd (let y : _≡_ {A = ℕ} 0 1 = cc in omega arith)
+    showed (told t) h = h
+    showed done h = tt
+
+    knows : Knows b i (e .0 .ans)
+    knows = subst (λ (c : ℕ). Knows b c (e .0 .ans)) e-cell
+        (nothing-vanishes f b O (d .0) (e .0) (d .1) (e .1)
+        (ltb-true (d .0 .ended) (e .0 .began) (and-left (ltb (d .0 .ended) (e .0 .began)) _ (e .2)))
+        (d-cell ∙ sym e-cell)
+        (subst (λ (c : ℕ). Shows (f c) (d .0 .ans)) (sym e-cell) (showed (d .0 .ans) (and-left (shows (f i) (d .0 .ans)) _ (and-right (eqb (d .0 .cell) i) _ (d .2))))))
+
+    denied : (a : Ans) → Knows b i a → denies x a ≡ true → ⊥
+    denied (got v) k h = not-wrote i x Q (subst (Wrote b i) (eqb-true v x h) k)
+    denied (told true) k h = let y : _≡_ {A = ℕ} 0 1 = cc in omega arith
+    denied (told false) k h = let y : _≡_ {A = ℕ} 0 1 = cc in omega arith
+    denied done k h = let y : _≡_ {A = ℕ} 0 1 = cc in omega arith
