@@ -19,3 +19,5 @@ pub mod Proved
 pub mod Vanish
 pub mod Theorems
 pub mod Histories
+pub mod Mistakes
+pub mod Lost
