@@ -21,3 +21,4 @@ pub mod Theorems
 pub mod Histories
 pub mod Mistakes
 pub mod Lost
+pub mod Shams
