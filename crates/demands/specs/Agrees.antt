@@ -2,7 +2,6 @@
 -- Assumes nothing.
 use Prim.Native.Nat.{ℕ}
 use mathlib.Core.Path.{_≡_}
-use Rattle.numbers.specs.declared.Cell.{Cell}
 use Rattle.lanes.specs.declared.Stage.{Stage}
 use Rattle.lanes.specs.declared.Stage.the-variants as Stage
 use Rattle.lanes.specs.declared.Op.{Op}

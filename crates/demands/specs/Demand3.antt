@@ -9,7 +9,7 @@ use Rattle.grid.specs.declared.Ask.the-variants as Ask
 use Rattle.grid.specs.declared.Answer.{Answer}
 use Rattle.grid.specs.declared.Answer.the-variants as Answer
 use Rattle.theory.specs.Interface.{sum}
-use Rattle.demands.specs.Calls.{Machine, Call, step, answerTo}
+use Rattle.demands.specs.Calls.{Machine, step}
 use Rattle.demands.specs.Book.{Doing, nothing, busy, Run}
 
 abbrev pub mostSteps : Ask → ℕ

@@ -7,7 +7,7 @@ use mathlib.Core.Bool.{Bool, true, false, not}
 use mathlib.Core.List.{List, [], _∷_}
 use lib.Dec.{ltb}
 use Rattle.numbers.specs.Numbers.{fillOf}
-use Rattle.refusals.specs.Orders.{Rule, _gives_, orders}
+use Rattle.refusals.specs.Orders.{_gives_, orders}
 use Rattle.refusals.specs.declared.Refusal.{Refusal}
 use Rattle.refusals.specs.declared.Refusal.the-variants as Refusal
 use Rattle.steps.specs.Memory.{Memory}

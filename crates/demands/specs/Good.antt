@@ -1,12 +1,11 @@
 -- What holds of every state, memory and book that calls can reach, and that every number of such a state is in its range.
 -- Assumes nothing.
-use Prim.Native.Nat.{ℕ, suc, _+_, _≤_, _<_}
-use mathlib.Core.Path.{_≡_, refl, sym, ap, _∙_}
-use mathlib.Core.Bool.{Bool, true, _&&_}
-use mathlib.Core.List.{List}
+use Prim.Native.Nat.{ℕ, _≤_, _<_}
+use mathlib.Core.Path.{_≡_, refl, ap}
+use mathlib.Core.Bool.{true}
 use native.Mathlib.Omega.{arith}
 use borrow.Author.Tests.{lt-ltb, le-leb, eq-eqb}
-use lib.ListN.{length, getD}
+use lib.ListN.{length}
 use Rattle.numbers.specs.Numbers.{mostProcesses, mostCells, mostSegments, mostSteps, mostMarks, directoryWords, poolWords, processOf, placeOf}
 use Rattle.numbers.specs.declared.Cell.{Cell}
 use Rattle.lanes.specs.declared.Check.{Check}
@@ -26,7 +25,7 @@ use Rattle.grid.specs.Calls.{lengthsFit, cellOf}
 use Rattle.theory.specs.Interface as Theory
 use Rattle.demands.specs.Book.{Doing, nothing, busy, Book, kindOf}
 use Rattle.demands.specs.Agrees.{Does, LaneAgrees}
-use Rattle.demands.specs.Shadow.{gridOf, lawful, checkAt, writeAt, stageOf, laneFor, wordsOf, shadow}
+use Rattle.demands.specs.Shadow.{gridOf, lawful, checkAt, writeAt, stageOf, laneFor, shadow}
 
 -- The start that an operation under way holds: read in (c), or drawn.
 abbrev pub HeldIn : Check → ℕ → Type 0

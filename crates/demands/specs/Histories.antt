@@ -1,8 +1,8 @@
 -- Histories: calls with their answers. One in which a reading vanishes has no one order: a test that computes.
 -- Assumes nothing.
-use Prim.Native.Nat.{ℕ, _<_}
-use mathlib.Core.Path.{_≡_, refl, sym, ap, _∙_, subst}
-use mathlib.Core.Logic.{_⊎_, inl, inr, _≢_}
+use Prim.Native.Nat.{ℕ}
+use mathlib.Core.Path.{_≡_, refl, sym, _∙_, subst}
+use mathlib.Core.Logic.{_⊎_, inl, inr}
 use mathlib.Core.Bool.{Bool, true, false, not, _&&_}
 use mathlib.Core.List.{List, [], _∷_, List·Memᴰ, List·Memᴰ·head, List·Memᴰ·tail, List·Memᴰ·cases-cons}
 use native.Mathlib.Decide.{ℕ-discrete}
@@ -19,7 +19,7 @@ use Rattle.grid.specs.Calls.{cellOf}
 use Rattle.theory.specs.Interface as Theory
 use Rattle.theory.specs.Interface.{Op, write, Ans, got, told, done, Done}
 use Rattle.demands.specs.Calls.{Machine, Call, begin, step, misfit, World, answerTo, worldAfter}
-use Rattle.demands.specs.Book.{Doing, nothing, busy, Book, blank, kindOf, noteBegin, noteStep, goesOn, ends, noted, Run, run}
+use Rattle.demands.specs.Book.{Doing, nothing, busy, Book, blank, kindOf, passed, finished, noteBegin, noteStep, goesOn, ends, noted, Run, run}
 use Rattle.demands.specs.Demand2.{OneOrder}
 use Rattle.demands.specs.Vanish.{Shows, Wrote, once, still, Knows, nothing-vanishes}
 
@@ -89,7 +89,7 @@ module _ (i x : ℕ) where
       by (no e) = rw (Theory.upd-other f q d r e) (k r)
 
   -- an answer of any kind keeps the book quiet
-  pass-quiet : {b : Book} → Quiet b → Quiet (Rattle.demands.specs.Book.passed b)
+  pass-quiet : {b : Book} → Quiet b → Quiet (passed b)
   pass-quiet Q = record { ended = Q .ended; doing = Q .doing }
 
   goes-quiet : {b : Book} (q : ℕ) (d : Doing) → Still d → Quiet b → Quiet (goesOn b q d)
@@ -103,7 +103,7 @@ module _ (i x : ℕ) where
     doing = doing-upd (b .doing) q nothing tt (Q .doing);
   }
     where
-      by : (d : Done) → (d ≡ Rattle.demands.specs.Book.finished b q began a y) ⊎ List·Memᴰ d (b .ended) → Other (d .op) (d .cell)
+      by : (d : Done) → (d ≡ finished b q began a y) ⊎ List·Memᴰ d (b .ended) → Other (d .op) (d .cell)
       by d (inl e) = rw e s
       by d (inr m) = Q .ended d m
 

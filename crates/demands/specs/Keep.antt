@@ -1,36 +1,21 @@
 -- A refused call, a beginning and a step keep what is good.
 -- Assumes nothing.
-use Prim.Native.Nat.{ℕ, suc, _+_, _<_}
+use Prim.Native.Nat.{ℕ, suc, _<_}
 use mathlib.Core.Path.{_≡_, refl, sym, ap, _∙_, subst}
-use mathlib.Core.Logic.{_≢_}
-use mathlib.Core.List.{List, _∷_}
-use native.Mathlib.Decide.{ℕ-discrete}
-use native.Mathlib.Omega.{arith}
-use native.Mathlib.Numerals.{add-one}
-use lib.ListN.{length, getD, set, length-set}
-use Rattle.numbers.specs.Numbers.{offsetOf}
-use Rattle.lanes.specs.declared.Op.{Op}
-use Rattle.lanes.specs.declared.Op.the-variants as Op
+use lib.ListN.{getD, set, length-set}
 use Rattle.lanes.specs.declared.Lane.{Lane}
 use Rattle.lanes.specs.declared.State.{State}
 use Rattle.lanes.specs.Ranges.{rest, laneOf}
 use Rattle.steps.specs.Memory.{Memory}
-use Rattle.steps.specs.declared.Change.{Change}
-use Rattle.steps.specs.declared.Change.the-variants as Change
-use Rattle.steps.specs.declared.Next.{Next}
-use Rattle.steps.specs.declared.Next.the-variants as Next
-use Rattle.steps.specs.declared.Turn.the-variants as Turn
-use Rattle.steps.specs.Changes.{laneAfter, topAfter, memoryAfter}
 use Rattle.grid.specs.declared.Ask.{Ask}
 use Rattle.grid.specs.declared.Ask.the-variants as Ask
-use Rattle.grid.specs.Calls.{cellOf, opOf, advance, answerOf, settled}
+use Rattle.grid.specs.Calls.{cellOf, opOf, settled}
 use Rattle.theory.specs.Interface as Theory
-use Rattle.demands.specs.Book.{Doing, nothing, busy, Book, kindOf, passed, begun, counted, finished, noteStep}
+use Rattle.demands.specs.Book.{Doing, nothing, busy, Book, kindOf, passed, begun}
 use Rattle.demands.specs.Agrees.{LaneAgrees}
-use Rattle.demands.specs.Shadow.{gridOf, linkOf, stageOf, laneFor, sinceOf, takenOf, changeOf, nextOf, memOf, wordsOf, shadow}
-use Rattle.demands.specs.ShadowLaws.{list-set, lane-set, lane-all, upd-self}
-use Rattle.demands.specs.Good.{Held, Lengths, Good, law, inside, behind, at-work, does}
-use Rattle.demands.specs.Goes.{Stores, Carries, memory, Goes}
+use Rattle.demands.specs.Shadow.{gridOf, linkOf, laneFor, sinceOf, takenOf, shadow}
+use Rattle.demands.specs.ShadowLaws.{lane-set, lane-all, upd-self}
+use Rattle.demands.specs.Good.{Held, Good, law, inside, behind}
 
 -- ---- a refused call
 

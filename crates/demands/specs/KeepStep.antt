@@ -4,13 +4,10 @@ use Prim.Native.Nat.{ℕ, suc, _+_, _<_}
 use mathlib.Core.Path.{_≡_, refl, sym, ap, _∙_, subst}
 use mathlib.Core.List.{List, _∷_}
 use native.Mathlib.Decide.{ℕ-discrete}
-use native.Mathlib.Numerals.{add-one}
 use native.Mathlib.Omega.{arith}
-use lib.ListN.{length, getD, set, length-set}
-use lib.Seq.{getD-set-same}
+use lib.ListN.{length-set}
 use Rattle.numbers.specs.Numbers.{offsetOf}
 use Rattle.lanes.specs.declared.Op.{Op}
-use Rattle.lanes.specs.declared.Op.the-variants as Op
 use Rattle.lanes.specs.declared.Lane.{Lane}
 use Rattle.lanes.specs.declared.State.{State}
 use Rattle.lanes.specs.Ranges.{laneOf}
@@ -26,7 +23,7 @@ use Rattle.grid.specs.Calls.{cellOf, advance, answerOf, settled}
 use Rattle.theory.specs.Interface as Theory
 use Rattle.demands.specs.Book.{Doing, nothing, busy, Book, kindOf, counted, finished, noteStep}
 use Rattle.demands.specs.Agrees.{LaneAgrees}
-use Rattle.demands.specs.Shadow.{gridOf, linkOf, stageOf, laneFor, sinceOf, takenOf, changeOf, nextOf, memOf, wordsOf, shadow}
+use Rattle.demands.specs.Shadow.{gridOf, linkOf, stageOf, laneFor, sinceOf, takenOf, changeOf, nextOf, memOf, shadow}
 use Rattle.demands.specs.ShadowLaws.{list-set, lane-set, lane-all}
 use Rattle.demands.specs.Good.{Held, Lengths, Good, law, inside, behind, at-work, does}
 use Rattle.demands.specs.Goes.{Stores, Carries, turnAs, memory, Goes}

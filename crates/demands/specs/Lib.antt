@@ -1,3 +1,4 @@
+-- the statements
 pub mod Calls
 pub mod Book
 pub mod Agrees
@@ -5,6 +6,9 @@ pub mod Demand1
 pub mod Demand2
 pub mod Demand3
 pub mod Demanded
+-- demand 1
+pub mod Refused
+-- the bridge to the theory
 pub mod Shadow
 pub mod ShadowLaws
 pub mod Good
@@ -13,11 +17,13 @@ pub mod Looks
 pub mod Writes
 pub mod Keep
 pub mod KeepStep
-pub mod Refused
 pub mod Views
+-- the theorems
+pub mod Opens
 pub mod Proved
 pub mod Vanish
 pub mod Theorems
+-- the statements bite
 pub mod Histories
 pub mod Mistakes
 pub mod Lost

@@ -12,7 +12,7 @@ use Rattle.lanes.specs.Ranges.{below}
 use Rattle.steps.specs.Memory.{memory}
 use Rattle.grid.specs.declared.Ask.the-variants as Ask
 use Rattle.grid.specs.declared.Answer.the-variants as Answer
-use Rattle.grid.specs.Calls.{openingOf, begunOf, verdictOf}
+use Rattle.grid.specs.Calls.{openingOf, begunOf}
 use Rattle.theory.specs.Interface.{upd}
 use Rattle.demands.specs.Calls.{Machine, Call, begin, step, World, openedWorld}
 use Rattle.demands.specs.Book.{blank}

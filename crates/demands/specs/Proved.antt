@@ -1,47 +1,38 @@
--- The grid is what is demanded.
+-- The grid is what is demanded: demands 2 and 3 after any calls, and all of it together.
 -- Assumes nothing.
-use Prim.Native.Nat.{ℕ, suc, _+_, _*_, _≤_, _<_}
+use Prim.Native.Nat.{ℕ, suc, _<_}
 use mathlib.Core.Path.{_≡_, refl, sym, ap, _∙_, subst}
 use mathlib.Core.Logic.{_⊎_, inl, inr, _≢_}
-use mathlib.Core.Bool.{Bool, true, false, not, _&&_}
+use mathlib.Core.Bool.{Bool, true, false, not}
 use mathlib.Core.List.{List, [], _∷_, List·Memᴰ}
-use native.Mathlib.Decide.{decLt}
 use native.Mathlib.Omega.{arith}
-use borrow.Author.Tests.{leb-true, eqb-true}
-use lib.Dec.{leb, ltb, eqb}
-use lib.ListN.{length, getD, replicate, length-replicate, getD-replicate, List·getD-eq-default}
-use Rattle.numbers.specs.Numbers.{mostProcesses, mostCells, poolWords, directoryWords, fillOf}
+use lib.Dec.{ltb}
+use Rattle.numbers.specs.Numbers.{fillOf}
 use Rattle.refusals.specs.Orders.{pick}
 use Rattle.refusals.specs.declared.Refusal.{Refusal}
 use Rattle.refusals.specs.declared.Refusal.the-variants as Refusal
 use Rattle.lanes.specs.declared.State.{State}
-use Rattle.lanes.specs.Ranges.{rest, laneOf}
-use Rattle.lanes.specs.Laws.{and-left, and-right}
+use Rattle.lanes.specs.Ranges.{laneOf}
 use Rattle.steps.specs.Memory.{Memory}
 use Rattle.steps.specs.declared.Next.{Next}
 use Rattle.steps.specs.declared.Next.the-variants as Next
 use Rattle.grid.specs.declared.Ask.{Ask}
 use Rattle.grid.specs.declared.Ask.the-variants as Ask
-use Rattle.grid.specs.declared.Answer.{Answer}
-use Rattle.grid.specs.declared.Answer.the-variants as Answer
 use Rattle.grid.specs.declared.Opening.{Opening}
-use Rattle.grid.specs.declared.Opening.the-variants as Opening
-use Rattle.grid.specs.declared.Opened.{Opened}
 use Rattle.grid.specs.declared.Stepped.{Stepped}
 use Rattle.grid.specs.Calls as Grid
 use Rattle.theory.specs.Interface as Theory
-use Rattle.demands.specs.Calls.{grid, Call, begin, step, misfit, World, answerTo, Accepted, openedWorld}
-use Rattle.demands.specs.Book.{Doing, nothing, busy, Book, blank, kindOf, Run, next, run, start}
-use Rattle.demands.specs.Agrees.{Agrees}
-use Rattle.demands.specs.Demand1.{Kind, refused, begins, steps, kind}
+use Rattle.demands.specs.Calls.{grid, Call, begin, step, misfit, answerTo}
+use Rattle.demands.specs.Book.{Doing, nothing, busy, Book, kindOf, Run, next, run, start}
+use Rattle.demands.specs.Demand1.{refused, begins, steps, kind}
 use Rattle.demands.specs.Demand2.{Unfinished, OneOrder}
-use Rattle.demands.specs.Demand3.{mostSteps, Answers, Counts, Counted}
+use Rattle.demands.specs.Demand3.{mostSteps, Answers, Counts}
 use Rattle.demands.specs.Demanded.{isBusy, expected, Meets, Demanded}
-use Rattle.demands.specs.Shadow.{gridOf, linkOf, laneFor, sinceOf, startsIn, shadow}
-use Rattle.demands.specs.Good.{Bounds, Lengths, Good, law, behind, does, few-steps, top-fits}
-use Rattle.demands.specs.Goes.{Goes}
+use Rattle.demands.specs.Shadow.{laneFor, sinceOf}
+use Rattle.demands.specs.Good.{Good, law, behind, does, few-steps, top-fits}
+use Rattle.demands.specs.Opens.{opening-open, admitted, good-fresh}
 use Rattle.demands.specs.KeepStep.{doingAfter, good-step}
-use Rattle.demands.specs.Refused.{a-refusal-changes-nothing, opens-by-table, no-refusal}
+use Rattle.demands.specs.Refused.{answers, a-refusal-changes-nothing, opens-by-table}
 use Rattle.demands.specs.Views.{Begins, refuses, accepts, begins-as, Steps, refuses-step, accepts-step, steps-as, misfits, GoodRun, good-next}
 
 module _ {s : State} {mem : Memory} {b : Book} (H : Good s mem b) where
@@ -50,27 +41,21 @@ module _ {s : State} {mem : Memory} {b : Book} (H : Good s mem b) where
   unfinished : (e : Theory.Entry) → Theory.Pending (behind H .watch) e → Unfinished b e
   unfinished e P = by (b .doing (e .who)) refl
     where
-      by : (d : Doing) → b .doing (e .who) ≡ d → Unfinished b e
-      by nothing k =
-          let lane : Theory.idle ≡ Theory.busy (e .op) (e .cell) (P .stage) = sym (ap (λ (d : Doing). laneFor d (laneOf s (e .who) .op)) k) ∙ P .lane in
-          absurd (let y : _≡_ {A = ℕ} 0 1 = cc in omega arith)
-      by (busy began a taken) k = at a k
-        where
-          since : began ≡ e .began
-          since = sym (ap sinceOf k) ∙ P .since
+      lane : (d : Doing) → b .doing (e .who) ≡ d → laneFor d (laneOf s (e .who) .op) ≡ Theory.busy (e .op) (e .cell) (P .stage)
+      lane d k = sym (ap (λ (d : Doing). laneFor d (laneOf s (e .who) .op)) k) ∙ P .lane
 
-          at : (a : Ask) → b .doing (e .who) ≡ busy began a taken → Unfinished b e
-          at (Ask.Read i) k =
-              let lane : laneFor (busy began (Ask.Read i) taken) (laneOf s (e .who) .op) ≡ Theory.busy (e .op) (e .cell) (P .stage) = sym (ap (λ (d : Doing). laneFor d (laneOf s (e .who) .op)) k) ∙ P .lane in
-              let op : Theory.read ≡ Theory.write (P .value) = (let y : Theory.read ≡ e .op = cc in y) ∙ P .writes in
-              absurd (let y : _≡_ {A = ℕ} 0 1 = cc in omega arith)
-          at (Ask.Asked i) k =
-              let lane : laneFor (busy began (Ask.Asked i) taken) (laneOf s (e .who) .op) ≡ Theory.busy (e .op) (e .cell) (P .stage) = sym (ap (λ (d : Doing). laneFor d (laneOf s (e .who) .op)) k) ∙ P .lane in
-              let op : Theory.asked ≡ Theory.write (P .value) = (let y : Theory.asked ≡ e .op = cc in y) ∙ P .writes in
-              absurd (let y : _≡_ {A = ℕ} 0 1 = cc in omega arith)
-          at (Ask.Write i v) k =
-              let lane : laneFor (busy began (Ask.Write i v) taken) (laneOf s (e .who) .op) ≡ Theory.busy (e .op) (e .cell) (P .stage) = sym (ap (λ (d : Doing). laneFor d (laneOf s (e .who) .op)) k) ∙ P .lane in
-              record { cell = i; value = v; taken = taken; doing = k ∙ ap (λ (n : ℕ). busy n (Ask.Write i v) taken) since; is-op = cc; is-cell = cc }
+      writes : (o : Theory.Op) (i : ℕ) (x : Theory.Stage) → Theory.busy o i x ≡ Theory.busy (e .op) (e .cell) (P .stage) → o ≡ Theory.write (P .value)
+      writes o i x k = let h : o ≡ e .op = cc in h ∙ P .writes
+
+      at : (a : Ask) (began taken : ℕ) → began ≡ e .began → b .doing (e .who) ≡ busy began a taken → laneFor (busy began a taken) (laneOf s (e .who) .op) ≡ Theory.busy (e .op) (e .cell) (P .stage) → Unfinished b e
+      at (Ask.Read i) began taken since k l = let h = writes _ _ _ l in absurd (let y : _≡_ {A = ℕ} 0 1 = cc in omega arith)
+      at (Ask.Asked i) began taken since k l = let h = writes _ _ _ l in absurd (let y : _≡_ {A = ℕ} 0 1 = cc in omega arith)
+      at (Ask.Write i v) began taken since k l =
+          record { cell = i; value = v; taken = taken; doing = k ∙ ap (λ (n : ℕ). busy n (Ask.Write i v) taken) since; is-op = cc; is-cell = cc }
+
+      by : (d : Doing) → b .doing (e .who) ≡ d → Unfinished b e
+      by nothing k = let l = lane nothing k in absurd (let y : _≡_ {A = ℕ} 0 1 = cc in omega arith)
+      by (busy began a taken) k = at a began taken (sym (ap sinceOf k) ∙ P .since) k (lane (busy began a taken) k)
 
   pub one-order : OneOrder (fillOf (s .first) (s .step)) b
   one-order = record { order = O .order; orderly = O .orderly; complete = O .complete; sound = λ e m. by e (O .sound e m) }
@@ -89,11 +74,11 @@ module _ {s : State} {mem : Memory} {b : Book} (H : Good s mem b) where
   bounds (Ask.Asked i) = refl
   bounds (Ask.Write i v) = refl
 
-  answers : (most n taken : ℕ) (nx : Next) → n ≡ taken → taken < most → ((o : _) → nx ≡ Next.Going o → suc taken < most) → Answers most (suc taken) (Grid.answerOf n nx)
-  answers most n taken (Next.Going o) e h k = k o refl
-  answers most n taken (Next.Read v) e h k = (omega arith, omega arith)
-  answers most n taken Next.Written e h k = (omega arith, omega arith)
-  answers most n taken (Next.Asked t) e h k = (omega arith, omega arith)
+  reports : (most n taken : ℕ) (nx : Next) → n ≡ taken → taken < most → ((o : _) → nx ≡ Next.Going o → suc taken < most) → Answers most (suc taken) (Grid.answerOf n nx)
+  reports most n taken (Next.Going o) e h k = k o refl
+  reports most n taken (Next.Read v) e h k = (omega arith, omega arith)
+  reports most n taken Next.Written e h k = (omega arith, omega arith)
+  reports most n taken (Next.Asked t) e h k = (omega arith, omega arith)
 
   pub counted-steps : (q : ℕ) → Counts (b .doing q) (Grid.stepOf s q mem .stepped .answer)
   counted-steps q = by (steps-as H q)
@@ -105,7 +90,7 @@ module _ {s : State} {mem : Memory} {b : Book} (H : Good s mem b) where
       by (refuses-step r e x d) = subst to (sym e) (rw d tt)
       by (accepts-step {began} {taken} {a} d g e x) =
           subst to (sym e) (rw d
-          (answers (mostSteps a) (laneOf s q .steps) taken (g .next) (does H q d .1) (rw (← bounds a) (few-steps H q d))
+          (reports (mostSteps a) (laneOf s q .steps) taken (g .next) (does H q d .1) (rw (← bounds a) (few-steps H q d))
           (λ o k. rw (← bounds a) (few-steps (good-step H q d g) q (Theory.upd-same (b .doing) q (doingAfter began a taken (g .next)) ∙ ap (doingAfter began a taken) k)))))
 
   -- ---- refusals
@@ -118,15 +103,9 @@ module _ {s : State} {mem : Memory} {b : Book} (H : Good s mem b) where
       by (accepts hq free hi e x) = ap (λ (y : Stepped). kind (y .answer)) e ∙ sym x
   refusals (step q) = by (steps-as H q)
     where
-      moved : (n : ℕ) (nx : Next) → kind (Grid.answerOf n nx) ≡ steps
-      moved n (Next.Going o) = refl
-      moved n (Next.Read v) = refl
-      moved n Next.Written = refl
-      moved n (Next.Asked t) = refl
-
       by : Steps H q → kind (Grid.stepOf s q mem .stepped .answer) ≡ expected {p = s .p} {m = s .m} b (step q)
       by (refuses-step r e x d) = ap (λ (y : Grid.Outcome). kind (y .stepped .answer)) e ∙ sym x
-      by (accepts-step d g e x) = ap (λ (y : Grid.Outcome). kind (y .stepped .answer)) e ∙ moved (laneOf s q .steps) (g .next) ∙ sym x
+      by (accepts-step d g e x) = ap (λ (y : Grid.Outcome). kind (y .stepped .answer)) e ∙ answers (laneOf s q .steps) (g .next) ∙ sym x
   refusals (misfit q lent h) = ap (λ (y : Grid.Outcome). kind (y .stepped .answer)) (misfits H q lent h)
 
 -- 9 stands in no list of refusals in a run
@@ -175,82 +154,6 @@ module _ (p m first stride : ℕ) where
   meets-run (step q ∷ cs) r H = let c : Call p m = step q in meets-run cs (next grid (with-numbers r) c) (good-next (with-numbers r) H c)
   meets-run (misfit q lent h ∷ cs) r H = let c : Call p m = misfit q lent h in meets-run cs (next grid (with-numbers r) c) (good-next (with-numbers r) H c)
 
--- ---- a grid as opened
-
-opened-sizes : (p m first stride : ℕ) (mem : Memory) → Accepted p m first stride mem → Grid.openingOf p m mem ≡ Opening.Open
-opened-sizes p m first stride mem e = by (Grid.openingOf p m mem) e
-  where
-    by : (o : Opening) → Grid.openedAs p m first stride o .opening ≡ Opening.Open → o ≡ Opening.Open
-    by Opening.Open h = refl
-    by (Opening.Refused r) h = h
-
-module _ (p m : ℕ) (mem : Memory) where
-  record Admitted : Type 0 where
-    bounds : Bounds p m
-    lengths : Lengths p m mem
-
-  admitted : Grid.openingOf p m mem ≡ Opening.Open → Admitted
-  unfolding Grid.openingOf
-  admitted = by (leb 1 p && leb p mostProcesses) refl (leb 1 m && leb m mostCells) refl (Grid.lengthsFit p m mem) refl
-    where
-      by : (x : Bool) → (leb 1 p && leb p mostProcesses) ≡ x → (y : Bool) → (leb 1 m && leb m mostCells) ≡ y → (z : Bool) → Grid.lengthsFit p m mem ≡ z
-          → pick (not x) (Opening.Refused Refusal.ProcessCount) (pick (not y) (Opening.Refused Refusal.CellCount) (pick (not z) (Opening.Refused Refusal.LentLength) Opening.Open)) ≡ Opening.Open → Admitted
-      by false a y c z d h = absurd (let k : _≡_ {A = ℕ} 0 1 = cc in omega arith)
-      by true a false c z d h = absurd (let k : _≡_ {A = ℕ} 0 1 = cc in omega arith)
-      by true a true c false d h = absurd (let k : _≡_ {A = ℕ} 0 1 = cc in omega arith)
-      by true a true c true d h =
-          let t2 = eqb (length (mem .directory)) (directoryWords p) && eqb (length (mem .pool)) (poolWords p m) in
-          let t1 = eqb (length (mem .links)) m && t2 in
-          let r1 = and-right (eqb (length (mem .readings)) m) t1 d in
-          let r2 = and-right (eqb (length (mem .links)) m) t2 r1 in
-          record {
-            bounds = record {
-              p-low = leb-true 1 p (and-left (leb 1 p) (leb p mostProcesses) a);
-              p-high = leb-true p mostProcesses (and-right (leb 1 p) (leb p mostProcesses) a);
-              m-low = leb-true 1 m (and-left (leb 1 m) (leb m mostCells) c);
-              m-high = leb-true m mostCells (and-right (leb 1 m) (leb m mostCells) c);
-            };
-            lengths = record {
-              readings = eqb-true (length (mem .readings)) m (and-left (eqb (length (mem .readings)) m) t1 d);
-              links = eqb-true (length (mem .links)) m (and-left (eqb (length (mem .links)) m) t2 r1);
-              directory = eqb-true (length (mem .directory)) (directoryWords p) (and-left (eqb (length (mem .directory)) (directoryWords p)) (eqb (length (mem .pool)) (poolWords p m)) r2);
-              pool = eqb-true (length (mem .pool)) (poolWords p m) (and-right (eqb (length (mem .directory)) (directoryWords p)) (eqb (length (mem .pool)) (poolWords p m)) r2);
-            };
-          }
-
-fresh-lane : (q : ℕ) → getD (replicate mostProcesses rest) q rest ≡ rest
-fresh-lane q = by (decLt q mostProcesses)
-  where
-    by : Dec (q < mostProcesses) → getD (replicate mostProcesses rest) q rest ≡ rest
-    by (yes h) = getD-replicate mostProcesses q rest rest h
-    by (no h) = List·getD-eq-default (replicate mostProcesses rest) rest {n = q} (omega (arith, length-replicate mostProcesses rest))
-
-good-fresh : (p m first stride : ℕ) (mem : Memory) → Admitted p m mem → Good (Grid.fresh p m first stride) mem blank
-unfolding Theory.opened
-good-fresh p m first stride mem A = record {
-  bounds = A .bounds;
-  lanes = length-replicate mostProcesses rest;
-  lengths = A .lengths;
-  agrees = λ q. rw (fresh-lane q) (refl, refl);
-  marks = λ q n. 0;
-  held = λ q. 0;
-  holds = λ q. rw (fresh-lane q) tt;
-  whole = subst (λ (R : Theory.Run). Theory.Whole (gridOf (Grid.fresh p m first stride)) R)
-      (λ z. record {
-        watch = record {
-          mem = record { reading = λ i. getD (mem .readings) i 0; link = λ i. linkOf (getD (mem .links) i 0); inForce = λ q. ap (λ (l : _). l .marks) (sym (fresh-lane q)) z; drawn = λ q. ap (λ (l : _). l .drawn) (sym (fresh-lane q)) z; marks = λ q n. 0 };
-          lane = λ q. Theory.idle;
-          now = 0;
-          since = λ q. 0;
-          ended = [];
-        };
-        words = record { directory = startsIn (mem .directory); pool = λ k. getD (mem .pool) k 0; top = 0; held = λ q. 0 };
-        tally = record { cells = λ i. 0; procs = λ q. 0 };
-        taken = λ q. 0;
-      })
-      (Theory.whole-opened (gridOf (Grid.fresh p m first stride)) (λ i. getD (mem .readings) i 0) (λ i. linkOf (getD (mem .links) i 0)) (λ q n. 0) (startsIn (mem .directory)) (λ k. getD (mem .pool) k 0) (λ q. 0));
-}
-
 -- THE THEOREM
 pub demanded : Demanded grid
 demanded = record {
@@ -258,7 +161,7 @@ demanded = record {
   opens = opens-by-table;
   by-the-list = record { begins = λ s q a. refl; steps = λ s q mem. refl };
   runs = λ p m first stride mem ok calls.
-      let is = opened-sizes p m first stride mem ok in
+      let is = opening-open p m first stride mem ok in
       subst (λ (o : Opening). Meets grid p m first stride (run grid (start (record { state = Grid.openedAs p m first stride o .state; memory = mem })) calls)) (sym is)
       (meets-run p m first stride calls (start (record { state = Grid.fresh p m first stride; memory = mem })) (good-fresh p m first stride mem (admitted p m mem is)));
 }

@@ -5,7 +5,6 @@ use mathlib.Core.Path.{_≡_, refl, sym, ap, _∙_}
 use mathlib.Core.Bool.{Bool, true, false, not}
 use mathlib.Core.List.{List, [], _∷_}
 use native.Mathlib.Omega.{arith}
-use lib.ListN.{set}
 use lib.Seq.{set-getD}
 use Rattle.refusals.specs.Orders.{Rule, _gives_, pick, orders}
 use Rattle.refusals.specs.declared.Refusal.{Refusal}
@@ -31,7 +30,7 @@ use Rattle.grid.specs.declared.Verdict.{Verdict}
 use Rattle.grid.specs.declared.Verdict.the-variants as Verdict
 use Rattle.grid.specs.Calls as Grid
 use Rattle.demands.specs.Calls.{grid}
-use Rattle.demands.specs.Demand1.{Kind, refused, begins, steps, kind, beginTable, stepTable, moves, wordTable, refusedOn, Demand1, OpenTable}
+use Rattle.demands.specs.Demand1.{refused, begins, steps, kind, beginTable, stepTable, moves, wordTable, refusedOn, Demand1, OpenTable}
 
 -- ---- orders of refusals
 
@@ -71,13 +70,13 @@ begin-returns s q a r =
 
 -- ---- step
 
-answers : (n : ℕ) (next : Next) → kind (Grid.answerOf n next) ≡ steps
+pub answers : (n : ℕ) (next : Next) → kind (Grid.answerOf n next) ≡ steps
 answers n (Next.Going o) = refl
 answers n (Next.Read v) = refl
 answers n Next.Written = refl
 answers n (Next.Asked t) = refl
 
-pub no-refusal : (n : ℕ) (next : Next) (r : Refusal) → Grid.answerOf n next ≡ Answer.Refused r → ⊥
+no-refusal : (n : ℕ) (next : Next) (r : Refusal) → Grid.answerOf n next ≡ Answer.Refused r → ⊥
 no-refusal n next r e = let k : steps ≡ refused r = sym (answers n next) ∙ ap kind e in let y : _≡_ {A = ℕ} 0 1 = cc in omega arith
 
 module _ (s : State) (q : ℕ) (mem : Memory) where

@@ -1,6 +1,6 @@
 -- How tests, lists and links of the code look in the shadow.
 -- Assumes nothing.
-use Prim.Native.Nat.{ℕ, suc, _+_, _*_, _/_, _%_, _≤_, _<_}
+use Prim.Native.Nat.{ℕ, _/_, _%_, _<_}
 use mathlib.Core.Path.{_≡_, refl, sym, ap, _∙_}
 use mathlib.Core.Logic.{_≢_}
 use mathlib.Core.Bool.{Bool, true, false}
@@ -11,7 +11,7 @@ use borrow.Author.Tests.{lt-ltb, le-ltb, eq-eqb, ne-eqb}
 use lib.Dec.{ltb, eqb}
 use lib.ListN.{length, getD, set}
 use lib.Seq.{getD-set-same, getD-set-other}
-use Rattle.numbers.specs.Numbers.{mostSegments, linkProcesses, linkPlaces, directoryWord, packOf, processOf, placeOf}
+use Rattle.numbers.specs.Numbers.{mostSegments, linkProcesses, linkPlaces, directoryWord, packOf}
 use Rattle.numbers.specs.Laws.{process-pack, place-pack}
 use Rattle.refusals.specs.Orders.{pick}
 use Rattle.lanes.specs.declared.Lane.{Lane}

@@ -1,8 +1,7 @@
 -- Five shams, and a write that ends twice: each breaks the clause that document 01 names for it.
 -- Assumes nothing.
 use Prim.Native.Nat.{ℕ, zero, suc, _+_, _<_}
-use mathlib.Core.Path.{_≡_, refl, sym, ap, _∙_, subst}
-use mathlib.Core.Bool.{Bool, true, false}
+use mathlib.Core.Path.{_≡_, refl, ap, subst}
 use mathlib.Core.List.{List, [], _∷_}
 use native.Mathlib.Decide.{ℕ-discrete}
 use native.Mathlib.Omega.{arith}
@@ -21,12 +20,11 @@ use Rattle.grid.specs.declared.Ask.{Ask}
 use Rattle.grid.specs.declared.Ask.the-variants as Ask
 use Rattle.grid.specs.declared.Answer.{Answer}
 use Rattle.grid.specs.declared.Answer.the-variants as Answer
-use Rattle.grid.specs.declared.Stepped.{Stepped}
 use Rattle.grid.specs.Calls.{Outcome, outcome, openingOf, begunOf, verdictOf, beginOf, stepOf, settled, withOp}
 use Rattle.theory.specs.Interface.{upd}
 use Rattle.demands.specs.Calls.{Machine, Call, begin, step, World, Accepted}
-use Rattle.demands.specs.Book.{blank, Run, run, start}
-use Rattle.demands.specs.Demand1.{Kind, refused, begins, refusedOn, Demand1}
+use Rattle.demands.specs.Book.{Run, run, start}
+use Rattle.demands.specs.Demand1.{refused, begins, refusedOn, Demand1}
 use Rattle.demands.specs.Demand2.{ByTheList, OneOrder}
 use Rattle.demands.specs.Demand3.{Counted}
 use Rattle.demands.specs.Demanded.{Meets, Demanded}

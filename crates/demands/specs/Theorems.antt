@@ -14,10 +14,9 @@ use Rattle.grid.specs.Calls.{Outcome}
 use Rattle.theory.specs.Interface as Theory
 use Rattle.demands.specs.Calls.{grid, Call, begin, step, misfit, World, worldOf, answerTo, worldAfter, Accepted, openedWorld}
 use Rattle.demands.specs.Book.{Book, Run, run, start}
-use Rattle.demands.specs.Demand1.{Demand1}
 use Rattle.demands.specs.Demand2.{OneOrder}
 use Rattle.demands.specs.Demand3.{Counted, PoolSpent, PoolSuffices}
-use Rattle.demands.specs.Demanded.{Meets, Demanded}
+use Rattle.demands.specs.Demanded.{Meets}
 use Rattle.demands.specs.Vanish as Vanish
 use Rattle.demands.specs.Proved.{demanded}
 

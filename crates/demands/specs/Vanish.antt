@@ -4,7 +4,7 @@ use Prim.Native.Nat.{ℕ, _<_}
 use mathlib.Core.Path.{_≡_, refl, sym, ap, _∙_, subst}
 use mathlib.Core.Logic.{_⊎_, inl, inr, _≢_}
 use mathlib.Core.Bool.{Bool, true, false}
-use mathlib.Core.List.{List, [], _∷_, _++_, List·Memᴰ, List·Memᴰ·head, List·Memᴰ·tail, List·Memᴰ·cases-cons, Memᴰ·append-right, Memᴰ·cast}
+use mathlib.Core.List.{List, [], _∷_, _++_, List·Memᴰ, List·Memᴰ·head, List·Memᴰ·tail, List·Memᴰ·cases-cons, Memᴰ·append-right}
 use native.Mathlib.Decide.{ℕ-discrete}
 use Rattle.numbers.specs.declared.Cell.{Cell}
 use Rattle.grid.specs.declared.Ask.the-variants as Ask
@@ -12,7 +12,7 @@ use Rattle.theory.specs.Array.{Op, read, asked, write, Ans, got, told, done, va
 use Rattle.theory.specs.Order.{Done, Entry, deeds, Fits, Orderly, Is, Before}
 use Rattle.theory.specs.OrderLaws.{valueIn, writtenIn, no-false, value-unwritten}
 use Rattle.theory.specs.Interface as Theory
-use Rattle.demands.specs.Book.{Doing, busy, Book}
+use Rattle.demands.specs.Book.{busy, Book}
 use Rattle.demands.specs.Demand2.{Unfinished, OneOrder}
 
 -- An answer shows that its cell, filled at first with y, is written.

@@ -1,12 +1,11 @@
 -- What each call comes to in a good state, and that the next run is good.
 -- Assumes nothing.
-use Prim.Native.Nat.{ℕ, suc, _+_, _≤_, _<_}
+use Prim.Native.Nat.{ℕ, _<_}
 use mathlib.Core.Path.{_≡_, refl, sym, ap, _∙_, subst}
-use mathlib.Core.Bool.{Bool, true, false}
+use mathlib.Core.Bool.{true, false}
 use native.Mathlib.Decide.{decLt}
 use native.Mathlib.Omega.{arith}
 use borrow.Author.Tests.{lt-ltb, le-ltb, le-leb}
-use lib.Dec.{ltb}
 use lib.Seq.{getD-set-same}
 use Rattle.numbers.specs.Numbers.{poolWords}
 use Rattle.refusals.specs.declared.Refusal.{Refusal}
@@ -20,7 +19,6 @@ use Rattle.steps.specs.Memory.{Memory}
 use Rattle.steps.specs.Changes.{topAfter}
 use Rattle.grid.specs.declared.Ask.{Ask}
 use Rattle.grid.specs.declared.Ask.the-variants as Ask
-use Rattle.grid.specs.declared.Acted.{Acted}
 use Rattle.grid.specs.declared.Answer.{Answer}
 use Rattle.grid.specs.declared.Answer.the-variants as Answer
 use Rattle.grid.specs.declared.Stepped.{Stepped}
@@ -31,7 +29,7 @@ use Rattle.theory.specs.Interface as Theory
 use Rattle.demands.specs.Calls.{grid, Call, begin, step, misfit}
 use Rattle.demands.specs.Book.{Doing, nothing, busy, Book, Run, next, noteBegin, noteStep}
 use Rattle.demands.specs.Agrees.{Does, LaneAgrees}
-use Rattle.demands.specs.Demand1.{Kind, refused, begins, steps, refusedOn}
+use Rattle.demands.specs.Demand1.{refused, begins, steps, refusedOn}
 use Rattle.demands.specs.Demanded.{expected}
 use Rattle.demands.specs.Good.{Good, law, inside, at-work, does, lane-fits, top-fits, state-fits, lengths-fit}
 use Rattle.demands.specs.Goes.{Goes}
