@@ -1,3 +1,4 @@
 pub mod Text
 pub mod Laws
+pub mod Places
 pub mod Inner

@@ -1,0 +1,84 @@
+// The schedule program without its input and output: from a file's bytes to the bytes that it prints.
+ghost use mathlib.Core.Path.{_≡_};
+ghost use Rattle.steps.specs.Memory.{memory};
+ghost use Rattle.text.specs.Text.{placed};
+ghost use Rattle.play.specs.Play.{filled, scheduleText, put, playOf};
+ghost use Rattle.play.specs.Inner.{Ready};
+
+mod fills;
+mod records;
+
+use qhs::Header;
+use qhs::Reading;
+use text::Put;
+
+// The room that the longest output takes: 8,190 lines of 25 bytes.
+pub const OUTPUT: usize = 204750;
+
+// Plays n records on a grid in the lent memories.
+fn run(
+    bytes: &[u8],
+    h: Header,
+    n: usize,
+    readings: &mut [u32],
+    links: &mut [u64],
+    directory: &mut [u32],
+    pool: &mut [u32],
+    out: &mut [u8],
+) -> Put
+    requires { ⌜ Ready h n (now out) ⌝ }
+    ensures { λ r. ⌜ placed r (now (out .exit)) ≡ put (now (out .entry)) (scheduleText (now (bytes .entry)) h n (memory (now (readings .entry)) (now (links .entry)) (now (directory .entry)) (now (pool .entry)))) ⌝ }
+{
+    let o = grid::open(h.p, h.m, h.first, h.step, readings, links, directory, pool);
+    let mut s = o.state;
+    let mut at = records::end_of(text::put_sizes(out, 0, h.p, h.m));
+    let mut k: usize = 0;
+    while k < n {
+        let d = qhs::record_at(bytes, k);
+        let r = records::played(s, k, at, d, readings, links, directory, pool, out);
+        s = r.state;
+        at = r.at;
+        k = k + 1;
+    }
+    Put::End(at)
+}
+
+// Plays n records on a grid whose memory holds the fill.
+fn schedule(bytes: &[u8], h: Header, n: usize, out: &mut [u8]) -> Put
+    requires { ⌜ Ready h n (now out) ⌝ }
+    ensures { λ r. ⌜ placed r (now (out .exit)) ≡ put (now (out .entry)) (scheduleText (now (bytes .entry)) h n (filled h)) ⌝ }
+{
+    let fill = h.fill;
+    let low = (fill % 4294967296) as u32;
+    let mut readings = fills::readings(low);
+    let mut links = fills::links(fill);
+    let mut directory = fills::directory(low);
+    let mut pool = fills::pool(low);
+    let cells = h.m as usize;
+    let entries = numbers::directory_words(h.p);
+    let words = numbers::pool_words(h.p, h.m);
+    run(
+        bytes,
+        h,
+        n,
+        &mut readings[..cells],
+        &mut links[..cells],
+        &mut directory[..entries],
+        &mut pool[..words],
+        out,
+    )
+}
+
+// Writes what the program prints for a file of these bytes.
+pub fn play(bytes: &[u8], out: &mut [u8]) -> Put
+    ensures { λ r. ⌜ placed r (now (out .exit)) ≡ playOf (now (out .entry)) (now (bytes .entry)) ⌝ }
+{
+    if out.len() < OUTPUT {
+        return Put::NoRoom;
+    }
+    let is = qhs::read(bytes);
+    match is {
+        Reading::Refused(r) => text::put_file_refused(out, 0, r),
+        Reading::Schedule(h, n) => schedule(bytes, h, n, out),
+    }
+}

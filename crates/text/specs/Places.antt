@@ -1,0 +1,93 @@
+-- Laws of bytes put into a buffer, and how long the program's lines are.
+-- Assumes nothing.
+use Prim.Native.Nat.{ℕ, suc, _+_, _-_, _<_, _≤_}
+use mathlib.Core.Path.{_≡_, refl, sym, ap, _∙_}
+use mathlib.Core.List.{List, [], _++_, append-assoc}
+use native.Mathlib.Omega.{arith}
+use lib.ListN.{length, take, drop, length-append, length-drop, take-append-drop}
+use lib.Seq.{take-at, drop-append-add, drop-drop, length-take-le}
+use borrow.Author.Tests.{le-leb}
+use Rattle.refusals.specs.Numbers.{numberOf}
+use Rattle.refusals.specs.declared.Refusal.{Refusal}
+use Rattle.refusals.specs.declared.Refusal.the-variants as Refusal
+use Rattle.text.specs.declared.Put.the-variants as Put
+use Rattle.text.specs.Text.{word, newline, decimal, sizesLine, fileRefusedLine, splice, Placed, placed, putOf}
+use Rattle.text.specs.Laws.{decimal-short}
+
+-- Bytes that fit are put.
+pub put-fits : (out bytes : List ℕ) (at : ℕ) → at + length bytes ≤ length out
+    → putOf out at bytes ≡ placed (Put.End (at + length bytes)) (splice out at bytes)
+unfolding putOf
+put-fits out bytes at h = simp (le-leb _ _ h)
+
+-- Nothing put changes nothing.
+pub splice-none : (out : List ℕ) (at : ℕ) → splice out at [] ≡ out
+unfolding splice
+splice-none out at = let e : at + 0 ≡ at = omega arith in rw e (take-append-drop at out)
+
+pub splice-length : (out bytes : List ℕ) (at : ℕ) → at + length bytes ≤ length out → length (splice out at bytes) ≡ length out
+unfolding splice
+splice-length out bytes at h =
+    let front = length-take-le at out (omega arith) in
+    let back = length-drop (at + length bytes) out in
+    let inner = length-append bytes (drop (at + length bytes) out) in
+    let all = length-append (take at out) (bytes ++ drop (at + length bytes) out) in
+    omega arith
+
+-- Bytes put right after others are put with them.
+pub splice-more : (out xs ys : List ℕ) (at : ℕ) → at + length xs ≤ length out
+    → splice (splice out at xs) (at + length xs) ys ≡ splice out at (xs ++ ys)
+unfolding splice
+splice-more out xs ys at h =
+    let front : List ℕ = take at out ++ xs in
+    let back : List ℕ = drop (at + length xs) out in
+    let long : length front ≡ at + length xs =
+    length-append (take at out) xs ∙ ap (λ (k : ℕ). k + length xs) (length-take-le at out (omega arith)) in
+    let join : take at out ++ (xs ++ back) ≡ front ++ back = sym (append-assoc (take at out) xs back) in
+    let far : at + length xs + length ys ≡ at + length (xs ++ ys) = omega (arith, length-append xs ys) in
+    let dropped : drop (at + length xs + length ys) (front ++ back) ≡ drop (at + length (xs ++ ys)) out =
+    ap (λ (k : ℕ). drop (k + length ys) (front ++ back)) (sym long)
+    ∙ drop-append-add front back (length ys)
+    ∙ drop-drop (length ys) (at + length xs) out
+    ∙ ap (λ (k : ℕ). drop k out) far in
+    rw (join, take-at front back (at + length xs) long, dropped)
+    (append-assoc (take at out) xs (ys ++ drop (at + length (xs ++ ys)) out)
+    ∙ ap (λ (l : List ℕ). take at out ++ l) (sym (append-assoc xs ys (drop (at + length (xs ++ ys)) out))))
+
+-- The longest lines.
+pub sizes-short : (p m : ℕ) → p < 100 → m < 10000 → length (sizesLine p m) ≤ 24
+unfolding sizesLine
+sizes-short p m h k =
+    omega (arith,
+      decimal-short 1 p (omega arith),
+      decimal-short 3 m (omega arith),
+      length-append (word "processes ") (decimal p ++ (word " cells " ++ (decimal m ++ newline))),
+      length-append (decimal p) (word " cells " ++ (decimal m ++ newline)),
+      length-append (word " cells ") (decimal m ++ newline),
+      length-append (decimal m) newline)
+
+two-digits : (r : Refusal) → numberOf r < 100
+two-digits Refusal.ProcessCount = omega arith
+two-digits Refusal.CellCount = omega arith
+two-digits Refusal.LentLength = omega arith
+two-digits Refusal.NoSuchProcess = omega arith
+two-digits Refusal.NoSuchCell = omega arith
+two-digits Refusal.UnderWay = omega arith
+two-digits Refusal.NothingUnderWay = omega arith
+two-digits Refusal.OtherLengths = omega arith
+two-digits Refusal.OutOfRange = omega arith
+two-digits Refusal.AtWork = omega arith
+two-digits Refusal.NotASchedule = omega arith
+two-digits Refusal.Version = omega arith
+two-digits Refusal.TooManyCells = omega arith
+two-digits Refusal.RaggedRecords = omega arith
+two-digits Refusal.RecordKind = omega arith
+two-digits Refusal.FileTooLong = omega arith
+
+pub file-refused-short : (r : Refusal) → length (fileRefusedLine r) ≤ 16
+unfolding fileRefusedLine
+file-refused-short r =
+    omega (arith,
+      decimal-short 1 (numberOf r) (two-digits r),
+      length-append (word "file refused ") (decimal (numberOf r) ++ newline),
+      length-append (decimal (numberOf r)) newline)
