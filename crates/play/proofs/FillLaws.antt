@@ -42,6 +42,12 @@ pub schedule-is : (bytes out : List ℕ) (h : Header) (n : ℕ) (mem : Memory) (
     → r ≡ put out (scheduleText bytes h n (filled h))
 schedule-is bytes out h n mem r e f = f ∙ ap (λ (x : Memory). put out (scheduleText bytes h n x)) e
 
+pub play-ready : (bytes out : List ℕ) (is : Reading) (h : Header) (n : ℕ) → outputRoom ≤ length out → is ≡ readOf bytes → is ≡ Reading.Schedule h n
+    → Ready h n out
+play-ready bytes out is h n room read e =
+    let s = schedule bytes is h n read e in
+    record { p-high = s .p-high; m-high = s .m-high; n-high = omega (arith, s .bytes, s .bytes-high); room = room }
+
 module _ (bytes out : List ℕ) where
   pub play-none : length out < outputRoom → placed Put.NoRoom out ≡ playOf out bytes
   play-none h = simp (lt-leb _ _ h)
@@ -58,8 +64,3 @@ module _ (bytes out : List ℕ) where
     play-schedule h n e g =
         let named : readOf bytes ≡ Reading.Schedule h n = sym read ∙ e in
         g ∙ simp (le-leb _ _ room, named)
-
-    pub play-ready : (h : Header) (n : ℕ) → is ≡ Reading.Schedule h n → Ready h n out
-    play-ready h n e =
-        let s = schedule bytes is h n read e in
-        record { p-high = s .p-high; m-high = s .m-high; n-high = omega (arith, s .bytes, s .bytes-high); room = room }

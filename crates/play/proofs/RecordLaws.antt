@@ -65,5 +65,5 @@ done s k at end d mem after out written t p low room e f short g =
       memory = ap (λ (o : Outcome). o .memory) e;
       ends = g ∙ put .0 ∙ ap (λ (xs : List ℕ). at + length xs) line;
       shows = put .1 ∙ ap (λ (xs : List ℕ). splice out at xs) line;
-      short = rw (← line) (omega arith)
+      short = rw (← line) (omega arith);
     }

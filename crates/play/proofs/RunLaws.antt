@@ -48,7 +48,7 @@ begun h n out out₀ at₀ p r e f =
       is = both .1;
       ends = omega (arith, f, both .0);
       short = omega (arith, f, both .0);
-      sized = ap length (both .1) ∙ splice-length out (sizesLine (h .p) (h .m)) 0 (omega arith)
+      sized = ap length (both .1) ∙ splice-length out (sizesLine (h .p) (h .m)) 0 (omega arith);
     }
 
 pub going-start : (bytes : List ℕ) (h : Header) (n : ℕ) (w₀ : World) (out out₀ : List ℕ) (at₀ : ℕ) (p : Put) → Ready h n out
@@ -63,7 +63,7 @@ going-start bytes h n w₀ out out₀ at₀ p r e f =
       is = refl;
       shows = sym (splice-none out₀ at₀);
       ends = omega arith;
-      short = omega arith
+      short = omega arith;
     }
 
 module _ (bytes : List ℕ) (n : ℕ) (w₀ : World) (out₀ : List ℕ) (at₀ : ℕ) (w : World) (out : List ℕ) (at k : ℕ) (g : Going bytes n w₀ out₀ at₀ w out at k) where
@@ -93,12 +93,12 @@ going-next bytes n w₀ out₀ at₀ s mem mem′ out out′ at k d r low g e o 
       few = g .few;
       room = g .room;
       is =
-        ap (λ (x : State). world x mem′) (o .state)
-        ∙ ap (λ (x : Memory). world (turnOf s mem d .stepped .state) x) (o .memory)
-        ∙ ap (λ (x : Outcome). world (x .stepped .state) (x .memory)) turn;
+          ap (λ (x : State). world x mem′) (o .state)
+          ∙ ap (λ (x : Memory). world (turnOf s mem d .stepped .state) x) (o .memory)
+          ∙ ap (λ (x : Outcome). world (x .stepped .state) (x .memory)) turn;
       shows = shown;
       ends = omega (arith, o .ends, g .ends);
-      short = omega (arith, g .short)
+      short = omega (arith, g .short);
     })
 
 pub going-end : (bytes : List ℕ) (h : Header) (n : ℕ) (mem : Memory) (q : Opened) (out out₀ : List ℕ) (at₀ : ℕ) (p : Put) (w : World) (out′ : List ℕ) (at k : ℕ)

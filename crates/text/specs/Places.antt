@@ -58,13 +58,15 @@ splice-more out xs ys at h =
 pub sizes-short : (p m : ℕ) → p < 100 → m < 10000 → length (sizesLine p m) ≤ 24
 unfolding sizesLine
 sizes-short p m h k =
-    omega (arith,
+    omega (
+      arith,
       decimal-short 1 p (omega arith),
       decimal-short 3 m (omega arith),
       length-append (word "processes ") (decimal p ++ (word " cells " ++ (decimal m ++ newline))),
       length-append (decimal p) (word " cells " ++ (decimal m ++ newline)),
       length-append (word " cells ") (decimal m ++ newline),
-      length-append (decimal m) newline)
+      length-append (decimal m) newline,
+    )
 
 two-digits : (r : Refusal) → numberOf r < 100
 two-digits Refusal.ProcessCount = omega arith
@@ -87,7 +89,9 @@ two-digits Refusal.FileTooLong = omega arith
 pub file-refused-short : (r : Refusal) → length (fileRefusedLine r) ≤ 16
 unfolding fileRefusedLine
 file-refused-short r =
-    omega (arith,
+    omega (
+      arith,
       decimal-short 1 (numberOf r) (two-digits r),
       length-append (word "file refused ") (decimal (numberOf r) ++ newline),
-      length-append (decimal (numberOf r)) newline)
+      length-append (decimal (numberOf r)) newline,
+    )

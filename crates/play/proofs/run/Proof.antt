@@ -1,3 +1,5 @@
+-- `play::run` meets its contract.
+-- Assumes nothing.
 use Prim.Native.Nat.{_-_}
 use mathlib.Core.Path.{_≡_, refl}
 use native.Mathlib.Omega.{arith}
@@ -8,13 +10,6 @@ use Rattle.play.specs.Play.{world}
 use Rattle.play.proofs.RunLaws.{Going, going-start, going-sized, going-room, going-next, going-end}
 use Rattle.play.proofs.run.Statement.{statement}
 use Rattle.play.proofs.run.Tie as tie
-use Rattle.play.proofs.run.Reads as reads
-use Rattle.play.proofs.run.Lts as lts
-use Rattle.grid.proofs.open.Reads as open-reads
-use Rattle.play.proofs.records.end_of.Reads as end-of-reads
-use Rattle.play.proofs.records.played.Reads as played-reads
-use Rattle.qhs.proofs.record_at.Reads as record-at-reads
-use Rattle.text.proofs.put_sizes.Reads as put-sizes-reads
 
 abbrev Inv-loop : tie.InvT-loop
 Inv-loop bytes n readings₀ links₀ directory₀ pool₀ out₀ s₀ at₀ k₀ readings links directory pool out s at k =
@@ -23,68 +18,53 @@ Inv-loop bytes n readings₀ links₀ directory₀ pool₀ out₀ s₀ at₀ k�
 abbrev μ-loop : tie.MeasureT-loop
 μ-loop bytes n readings₀ links₀ directory₀ pool₀ out₀ s₀ at₀ k₀ readings links directory pool out s at k = n - k
 
--- src/lib.rt:38:9
 open-requires : tie.Need-open-requires Inv-loop μ-loop
 open-requires c κs = search needs
 
--- src/lib.rt:40:34
 put-sizes-requires : tie.Need-put-sizes-requires Inv-loop μ-loop
 put-sizes-requires c κs = search needs
 
--- src/lib.rt:40:9
 end-of-requires : tie.Need-end-of-requires Inv-loop μ-loop
 end-of-requires c κs = search needs
 
--- src/lib.rt:42:5
 loop-holds : tie.Need-loop-holds Inv-loop μ-loop
 loop-holds c = (search (going-start), (refl, (refl, (refl, refl))))
 
--- src/lib.rt:43:13
 record-at-requires : tie.Need-record-at-requires Inv-loop μ-loop
 record-at-requires c κs = search needs
 
--- src/lib.rt:44:13
 played-requires : tie.Need-played-requires Inv-loop μ-loop
 played-requires c κs =
     let d = c .before .before .before .before .before .before in
     going-room _ _ _ _ _ _ _ _ _ (d .before .loop .inv .0) (d .loop-test .taken)
 
--- src/lib.rt:47:13
 add-k : tie.Need-add-k Inv-loop μ-loop
 add-k c = omega arith
 
--- src/lib.rt:42:5
 loop-less : tie.Need-loop-less Inv-loop μ-loop
 loop-less c = omega arith
 
--- src/lib.rt:42:5
 loop-again : tie.Need-loop-again Inv-loop μ-loop
 loop-again c =
     let d = c .before .before .before .before .before .before .before .before .before .before .before in
     let e = d .before .before .before .before .before .before in
     (going-next _ _ _ _ _ _ _ _ _ _ _ _ _ _ (e .before .loop-test .taken) (e .before .before .loop .inv .0) (e .record-at .ensures) (d .played .ensures), (search needs, (search needs, (search needs, search needs))))
 
--- src/lib.rt:25:1
 same-length : tie.Need-same-length Inv-loop μ-loop
 same-length c = search needs
 
--- src/lib.rt:25:1
 same-length-2 : tie.Need-same-length-2 Inv-loop μ-loop
 same-length-2 c = search needs
 
--- src/lib.rt:25:1
 same-length-3 : tie.Need-same-length-3 Inv-loop μ-loop
 same-length-3 c = search needs
 
--- src/lib.rt:25:1
 same-length-4 : tie.Need-same-length-4 Inv-loop μ-loop
 same-length-4 c = search needs
 
--- src/lib.rt:25:1
 same-length-5 : tie.Need-same-length-5 Inv-loop μ-loop
 same-length-5 c = omega (arith, going-sized _ _ _ _ _ _ _ _ _ (c .before .loop .inv .0))
 
--- src/lib.rt:25:1
 returns : tie.Need-returns Inv-loop μ-loop
 returns c = search (going-end)
 

@@ -1,91 +1,75 @@
+-- `play::schedule` meets its contract.
+-- Assumes nothing.
+use native.Mathlib.Omega.{arith}
+use mathlib.Core.Path.{refl}
+use Rattle.play.proofs.FillLaws.{part-length, filled-is, schedule-is}
 use borrow.Author.Needs.{needs}
 use Rattle.play.proofs.schedule.Statement.{statement}
 use Rattle.play.proofs.schedule.Tie as tie
-use Rattle.play.proofs.schedule.Reads as reads
-use Rattle.play.proofs.schedule.Lts as lts
-use Rattle.numbers.proofs.directory_words.Reads as directory-words-reads
-use Rattle.numbers.proofs.pool_words.Reads as pool-words-reads
-use Rattle.play.proofs.fills.directory.Reads as directory-reads
-use Rattle.play.proofs.fills.links.Reads as links-reads
-use Rattle.play.proofs.fills.pool.Reads as pool-reads
-use Rattle.play.proofs.fills.readings.Reads as readings-reads
-use Rattle.play.proofs.run.Reads as run-reads
 
--- src/lib.rt:52:15
 cast-low : tie.Need-cast-low
 cast-low c = search needs
 
--- src/lib.rt:53:24
 readings-requires : tie.Need-readings-requires
 readings-requires c κs = search needs
 
--- src/lib.rt:54:21
 links-requires : tie.Need-links-requires
 links-requires c κs = search needs
 
--- src/lib.rt:55:25
 directory-requires : tie.Need-directory-requires
 directory-requires c κs = search needs
 
--- src/lib.rt:56:20
 pool-requires : tie.Need-pool-requires
 pool-requires c κs = search needs
 
--- src/lib.rt:57:17
 cast-cells : tie.Need-cast-cells
 cast-cells c = search needs
 
--- src/lib.rt:58:9
 directory-words-requires : tie.Need-directory-words-requires
 directory-words-requires c κs = search needs
 
--- src/lib.rt:59:9
 pool-words-requires : tie.Need-pool-words-requires
 pool-words-requires c κs = search needs
 
--- src/lib.rt:64:9
 array-borrow-prefix-readings : tie.Need-array-borrow-prefix-readings
 array-borrow-prefix-readings c = search needs
 
--- src/lib.rt:64:9
 slice-aggregate-run : tie.Need-slice-aggregate-run
-slice-aggregate-run c = ?
+slice-aggregate-run c = part-length _ 2040 _ _ (c .before .before .before .before .before .before .before .readings .ensures) (omega arith)
 
--- src/lib.rt:65:9
 array-borrow-prefix-links : tie.Need-array-borrow-prefix-links
 array-borrow-prefix-links c = search needs
 
--- src/lib.rt:65:9
 slice-aggregate-run-2 : tie.Need-slice-aggregate-run-2
-slice-aggregate-run-2 c = ?
+slice-aggregate-run-2 c = part-length _ 2040 _ _ (c .before .before .before .before .before .before .before .links .ensures) (omega arith)
 
--- src/lib.rt:66:9
 array-borrow-prefix-directory : tie.Need-array-borrow-prefix-directory
 array-borrow-prefix-directory c = search needs
 
--- src/lib.rt:66:9
 slice-aggregate-run-3 : tie.Need-slice-aggregate-run-3
-slice-aggregate-run-3 c = ?
+slice-aggregate-run-3 c = part-length _ 272 _ _ (c .before .before .before .before .before .before .before .directory .ensures) (omega arith)
 
--- src/lib.rt:67:9
 array-borrow-prefix-pool : tie.Need-array-borrow-prefix-pool
 array-borrow-prefix-pool c = search needs
 
--- src/lib.rt:67:9
 slice-aggregate-run-4 : tie.Need-slice-aggregate-run-4
-slice-aggregate-run-4 c = ?
+slice-aggregate-run-4 c = part-length _ 8192 _ _ (c .before .before .before .before .before .before .before .pool .ensures) (omega arith)
 
--- src/lib.rt:60:5
 run-requires : tie.Need-run-requires
 run-requires c κs = search needs
 
--- src/lib.rt:47:1
 same-length : tie.Need-same-length
 same-length c = search needs
 
--- src/lib.rt:47:1
 returns : tie.Need-returns
-returns c = ?
+returns c =
+    let d = c .before .before .before .before .before .before in
+    let e = d .before .before .before .before .before .before in
+    let f = e .before .before .before in
+    let s = f .before .before .before .before .before .before in
+    schedule-is _ _ (s .args .h) _ _ _
+    (filled-is (s .args .h) 2040 2040 272 8192 _ _ _ _ _ _ (s .pre .p-high) (s .pre .m-high) refl refl refl refl (f .before .before .before .readings .ensures) (f .before .before .links .ensures) (f .before .directory .ensures) (f .pool .ensures) (e .before .directory-words .ensures) (e .pool-words .ensures))
+    (d .run .ensures)
 
 pub schedule-spec : {M : Type 1} → statement M
 schedule-spec =

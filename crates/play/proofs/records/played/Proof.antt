@@ -1,46 +1,34 @@
+-- `play::records::played` meets its contract.
+-- Assumes nothing.
 use Rattle.play.proofs.RecordLaws.{done}
 use borrow.Author.Needs.{needs}
 use Rattle.play.proofs.records.played.Statement.{statement}
 use Rattle.play.proofs.records.played.Tie as tie
-use Rattle.play.proofs.records.played.Reads as reads
-use Rattle.play.proofs.records.played.Lts as lts
-use Rattle.play.proofs.records.end_of.Reads as end-of-reads
-use Rattle.play.proofs.records.turn.Reads as turn-reads
-use Rattle.text.proofs.put_answer.Reads as put-answer-reads
 
--- src/records.rt:77:9
 turn-requires : tie.Need-turn-requires
 turn-requires c κs = search needs
 
--- src/records.rt:80:22
 put-answer-requires : tie.Need-put-answer-requires
 put-answer-requires c κs = search needs
 
--- src/records.rt:80:9
 end-of-requires : tie.Need-end-of-requires
 end-of-requires c κs = search needs
 
--- src/records.rt:63:1
 same-length : tie.Need-same-length
 same-length c = search needs
 
--- src/records.rt:63:1
 same-length-2 : tie.Need-same-length-2
 same-length-2 c = search needs
 
--- src/records.rt:63:1
 same-length-3 : tie.Need-same-length-3
 same-length-3 c = search needs
 
--- src/records.rt:63:1
 same-length-4 : tie.Need-same-length-4
 same-length-4 c = search needs
 
--- src/records.rt:63:1
 same-length-5 : tie.Need-same-length-5
 same-length-5 c = search needs
 
--- src/records.rt:63:1
 returns : tie.Need-returns
 returns c = search (done)
 
