@@ -10,7 +10,7 @@ use Rattle.grid.specs.declared.Answer.{Answer}
 use Rattle.grid.specs.declared.Answer.the-variants as Answer
 use Rattle.theory.specs.Interface.{sum}
 use Rattle.demands.specs.Calls.{Machine, step}
-use Rattle.demands.specs.Book.{Doing, nothing, busy, Run}
+use Rattle.demands.specs.Book.{Doing, nothing, busy, Book, Run}
 
 abbrev pub mostSteps : Ask → ℕ
 mostSteps (Ask.Read i) = 5
@@ -48,8 +48,11 @@ abbrev pub Counted : Machine → Run → Type 0
 Counted M r = (q : ℕ) → Counts (r .book .doing q) (M .step (r .world .state) q (r .world .memory) .stepped .answer)
 
 -- `cells` and `procs` are 1 or 0: their sums count the different cells and loaders.
+abbrev pub poolBound : ℕ → ℕ → Book → ℕ
+poolBound p m b = 4 * sum (b .cells) m + 2 * sum (b .procs) p
+
 abbrev pub PoolSpent : ℕ → ℕ → Run → Type 0
-PoolSpent p m r = r .world .state .top ≤ 4 * sum (r .book .cells) m + 2 * sum (r .book .procs) p
+PoolSpent p m r = r .world .state .top ≤ poolBound p m (r .book)
 
 -- "So a pool of 4 per cell plus 2 per loader never runs short."
 abbrev pub PoolSuffices : ℕ → ℕ → Run → Type 0

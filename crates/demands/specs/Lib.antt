@@ -27,4 +27,5 @@ pub mod Theorems
 pub mod Histories
 pub mod Mistakes
 pub mod Lost
+pub mod Tight
 pub mod Shams
