@@ -2,12 +2,9 @@
 -- Assumes nothing.
 use Prim.Native.Nat.{ℕ, suc}
 use mathlib.Core.List.{List, [], _∷_}
-use Rattle.grid.specs.declared.Ask.{Ask}
-use Rattle.grid.specs.declared.Ask.the-variants as Ask
-use Rattle.grid.specs.declared.Answer.{Answer}
-use Rattle.grid.specs.declared.Answer.the-variants as Answer
 use Rattle.grid.specs.Calls.{cellOf}
 use Rattle.theory.specs.Interface.{upd, Op, read, asked, write, Ans, got, told, done, Done}
+use Rattle.demands.specs.Types.{Ask, Answer}
 use Rattle.demands.specs.Calls.{Machine, Call, begin, step, misfit, World, answerTo, worldAfter}
 
 -- A process is doing nothing, or is busy: since which call, with what it was asked, after how many accepted steps.

@@ -3,13 +3,8 @@
 use Prim.Native.Nat.{ℕ}
 use mathlib.Core.Path.{_≡_}
 use mathlib.Core.Bool.{false}
-use Rattle.lanes.specs.declared.State.{State}
-use Rattle.steps.specs.Memory.{Memory}
-use Rattle.grid.specs.declared.Ask.{Ask}
-use Rattle.grid.specs.declared.Answer.{Answer}
-use Rattle.grid.specs.declared.Stepped.{Stepped}
-use Rattle.grid.specs.declared.Opening.the-variants as Opening
 use Rattle.grid.specs.Calls.{Outcome, lengthsFit, openOf, beginOf, stepOf}
+use Rattle.demands.specs.Types.{State, Memory, Ask, Answer, Opening, Stepped}
 
 -- What the demands are stated over: how a machine begins an operation, and how it takes a step.
 pub record Machine : Type 0 where

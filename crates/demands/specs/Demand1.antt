@@ -6,21 +6,10 @@ use mathlib.Core.Path.{_≡_}
 use mathlib.Core.Bool.{Bool, true, false, not}
 use mathlib.Core.List.{List, [], _∷_}
 use Rattle.refusals.specs.Orders.{Rule, _gives_, orders}
-use Rattle.refusals.specs.declared.Refusal.{Refusal}
-use Rattle.refusals.specs.declared.Refusal.the-variants as Refusal
-use Rattle.lanes.specs.declared.State.{State}
 use Rattle.lanes.specs.Ranges.{laneOf, stateFits}
-use Rattle.steps.specs.Memory.{Memory}
 use Rattle.steps.specs.Steps.{turnOf}
-use Rattle.grid.specs.declared.Ask.{Ask}
-use Rattle.grid.specs.declared.Answer.{Answer}
-use Rattle.grid.specs.declared.Answer.the-variants as Answer
-use Rattle.grid.specs.declared.Opening.{Opening}
-use Rattle.grid.specs.declared.Opening.the-variants as Opening
-use Rattle.grid.specs.declared.Stepped.{Stepped}
-use Rattle.grid.specs.declared.Verdict.{Verdict}
-use Rattle.grid.specs.declared.Verdict.the-variants as Verdict
 use Rattle.grid.specs.Calls.{outcome, openOf, openRefusals, beginRefusals, stepRefusals, sizesOf, seenBy, decided}
+use Rattle.demands.specs.Types.{Refusal, State, Memory, Ask, Answer, Opening, Stepped, Verdict}
 use Rattle.demands.specs.Calls.{Machine}
 
 -- What an answer says of a call: it is refused, or an operation begins, or an operation takes a step.

@@ -6,13 +6,9 @@ use Prim.Native.Nat.{ℕ}
 use mathlib.Core.Path.{_≡_}
 use mathlib.Core.Logic.{_⊎_}
 use mathlib.Core.List.{List, List·Memᴰ}
-use Rattle.numbers.specs.declared.Cell.{Cell}
-use Rattle.lanes.specs.declared.State.{State}
-use Rattle.steps.specs.Memory.{Memory}
-use Rattle.grid.specs.declared.Ask.{Ask}
-use Rattle.grid.specs.declared.Ask.the-variants as Ask
 use Rattle.grid.specs.Calls.{beginOf, stepOf}
 use Rattle.theory.specs.Interface.{write, Done, Entry, Orderly, Is}
+use Rattle.demands.specs.Types.{Cell, State, Memory, Ask}
 use Rattle.demands.specs.Calls.{Machine}
 use Rattle.demands.specs.Book.{busy, Book}
 

@@ -4,11 +4,8 @@
 -- Assumes nothing.
 use Prim.Native.Nat.{ℕ, suc, _+_, _*_, _≤_, _<_}
 use mathlib.Core.Path.{_≡_}
-use Rattle.grid.specs.declared.Ask.{Ask}
-use Rattle.grid.specs.declared.Ask.the-variants as Ask
-use Rattle.grid.specs.declared.Answer.{Answer}
-use Rattle.grid.specs.declared.Answer.the-variants as Answer
 use Rattle.theory.specs.Interface.{sum}
+use Rattle.demands.specs.Types.{Ask, Answer}
 use Rattle.demands.specs.Calls.{Machine, step}
 use Rattle.demands.specs.Book.{Doing, nothing, busy, Book, Run}
 

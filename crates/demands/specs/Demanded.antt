@@ -8,11 +8,8 @@ use mathlib.Core.List.{List, [], _∷_}
 use lib.Dec.{ltb}
 use Rattle.numbers.specs.Numbers.{fillOf}
 use Rattle.refusals.specs.Orders.{_gives_, orders}
-use Rattle.refusals.specs.declared.Refusal.{Refusal}
-use Rattle.refusals.specs.declared.Refusal.the-variants as Refusal
-use Rattle.steps.specs.Memory.{Memory}
-use Rattle.grid.specs.declared.Answer.the-variants as Answer
 use Rattle.grid.specs.Calls.{cellOf}
+use Rattle.demands.specs.Types.{Refusal, Memory, Answer}
 use Rattle.demands.specs.Calls.{Machine, Call, begin, step, misfit, answerTo, Accepted, openedWorld}
 use Rattle.demands.specs.Book.{Doing, nothing, busy, Book, Run, run, start}
 use Rattle.demands.specs.Agrees.{Agrees}

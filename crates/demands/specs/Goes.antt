@@ -9,27 +9,12 @@ use lib.Dec.{ltb, eqb}
 use lib.ListN.{length, getD}
 use Rattle.numbers.specs.Numbers.{mostSegments, segmentOf, offsetOf, processOf, placeOf}
 use Rattle.refusals.specs.Orders.{pick}
-use Rattle.lanes.specs.declared.Check.{Check}
-use Rattle.lanes.specs.declared.Check.the-variants as Check
-use Rattle.lanes.specs.declared.Op.{Op}
-use Rattle.lanes.specs.declared.State.{State}
 use Rattle.lanes.specs.Ranges.{laneOf}
-use Rattle.steps.specs.Memory.{Memory}
-use Rattle.steps.specs.declared.Got.{Got}
-use Rattle.steps.specs.declared.Got.the-variants as Got
-use Rattle.steps.specs.declared.Found.{Found}
-use Rattle.steps.specs.declared.Found.the-variants as Found
-use Rattle.steps.specs.declared.Change.{Change}
-use Rattle.steps.specs.declared.Change.the-variants as Change
-use Rattle.steps.specs.declared.Next.{Next}
-use Rattle.steps.specs.declared.Next.the-variants as Next
-use Rattle.steps.specs.declared.Turn.{Turn}
-use Rattle.steps.specs.declared.Turn.the-variants as Turn
 use Rattle.steps.specs.Steps.{startOf, poolWord, checkMark, check, opTurn}
 use Rattle.steps.specs.Changes.{topAfter, memoryAfter}
-use Rattle.grid.specs.declared.Ask.{Ask}
 use Rattle.grid.specs.Calls.{cellOf, namedIn, named, sizesOf}
 use Rattle.theory.specs.Interface as Theory
+use Rattle.demands.specs.Types.{Check, Op, State, Memory, Got, Found, Change, Next, Turn, Ask}
 use Rattle.demands.specs.Book.{Book, kindOf}
 use Rattle.demands.specs.Agrees.{Does}
 use Rattle.demands.specs.Shadow.{gridOf, linkOf, checkAt, stageOf, changeOf, nextOf, startsIn, wordsOf}

@@ -7,22 +7,11 @@ use native.Mathlib.Omega.{arith}
 use borrow.Author.Tests.{lt-ltb, le-leb, eq-eqb}
 use lib.ListN.{length}
 use Rattle.numbers.specs.Numbers.{mostProcesses, mostCells, mostSegments, mostSteps, mostMarks, directoryWords, poolWords, processOf, placeOf}
-use Rattle.numbers.specs.declared.Cell.{Cell}
-use Rattle.lanes.specs.declared.Check.{Check}
-use Rattle.lanes.specs.declared.Check.the-variants as Check
-use Rattle.lanes.specs.declared.Stage.{Stage}
-use Rattle.lanes.specs.declared.Stage.the-variants as Stage
-use Rattle.lanes.specs.declared.Op.{Op}
-use Rattle.lanes.specs.declared.Op.the-variants as Op
-use Rattle.lanes.specs.declared.Lane.{Lane}
-use Rattle.lanes.specs.declared.State.{State}
 use Rattle.lanes.specs.Ranges.{laneOf, checkFits, stageFits, opFits, laneFits, stateFits}
 use Rattle.lanes.specs.Laws.{below-all}
-use Rattle.steps.specs.Memory.{Memory}
-use Rattle.grid.specs.declared.Ask.{Ask}
-use Rattle.grid.specs.declared.Ask.the-variants as Ask
 use Rattle.grid.specs.Calls.{lengthsFit, cellOf}
 use Rattle.theory.specs.Interface as Theory
+use Rattle.demands.specs.Types.{Cell, Check, Stage, Op, Lane, State, Memory, Ask}
 use Rattle.demands.specs.Book.{Doing, nothing, busy, Book, kindOf}
 use Rattle.demands.specs.Agrees.{Does, LaneAgrees}
 use Rattle.demands.specs.Shadow.{gridOf, lawful, checkAt, writeAt, stageOf, laneFor, shadow}

@@ -11,13 +11,10 @@ use borrow.Author.Tests.{ltb-true, eqb-true, eq-eqb}
 use lib.Dec.{ltb, eqb}
 use Rattle.refusals.specs.Orders.{pick}
 use Rattle.lanes.specs.Laws.{and-left, and-right}
-use Rattle.grid.specs.declared.Ask.{Ask}
-use Rattle.grid.specs.declared.Ask.the-variants as Ask
-use Rattle.grid.specs.declared.Answer.{Answer}
-use Rattle.grid.specs.declared.Answer.the-variants as Answer
 use Rattle.grid.specs.Calls.{cellOf}
 use Rattle.theory.specs.Interface as Theory
 use Rattle.theory.specs.Interface.{Op, write, Ans, got, told, done, Done}
+use Rattle.demands.specs.Types.{Ask, Answer}
 use Rattle.demands.specs.Calls.{Machine, Call, begin, step, misfit, World, answerTo, worldAfter}
 use Rattle.demands.specs.Book.{Doing, nothing, busy, Book, blank, kindOf, passed, finished, noteBegin, noteStep, goesOn, ends, noted, Run, run}
 use Rattle.demands.specs.Demand2.{OneOrder}

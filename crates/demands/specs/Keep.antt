@@ -3,14 +3,10 @@
 use Prim.Native.Nat.{ℕ, suc, _<_}
 use mathlib.Core.Path.{_≡_, refl, sym, ap, _∙_, subst}
 use lib.ListN.{getD, set, length-set}
-use Rattle.lanes.specs.declared.Lane.{Lane}
-use Rattle.lanes.specs.declared.State.{State}
 use Rattle.lanes.specs.Ranges.{rest, laneOf}
-use Rattle.steps.specs.Memory.{Memory}
-use Rattle.grid.specs.declared.Ask.{Ask}
-use Rattle.grid.specs.declared.Ask.the-variants as Ask
 use Rattle.grid.specs.Calls.{cellOf, opOf, settled}
 use Rattle.theory.specs.Interface as Theory
+use Rattle.demands.specs.Types.{Lane, State, Memory, Ask}
 use Rattle.demands.specs.Book.{Doing, nothing, busy, Book, kindOf, passed, begun}
 use Rattle.demands.specs.Agrees.{LaneAgrees}
 use Rattle.demands.specs.Shadow.{gridOf, linkOf, laneFor, sinceOf, takenOf, shadow}

@@ -7,20 +7,11 @@ use native.Mathlib.Decide.{ℕ-discrete}
 use native.Mathlib.Omega.{arith}
 use lib.ListN.{length-set}
 use Rattle.numbers.specs.Numbers.{offsetOf}
-use Rattle.lanes.specs.declared.Op.{Op}
-use Rattle.lanes.specs.declared.Lane.{Lane}
-use Rattle.lanes.specs.declared.State.{State}
 use Rattle.lanes.specs.Ranges.{laneOf}
-use Rattle.steps.specs.Memory.{Memory}
-use Rattle.steps.specs.declared.Change.{Change}
-use Rattle.steps.specs.declared.Change.the-variants as Change
-use Rattle.steps.specs.declared.Next.{Next}
-use Rattle.steps.specs.declared.Next.the-variants as Next
-use Rattle.steps.specs.declared.Turn.the-variants as Turn
 use Rattle.steps.specs.Changes.{laneAfter, topAfter, memoryAfter}
-use Rattle.grid.specs.declared.Ask.{Ask}
 use Rattle.grid.specs.Calls.{cellOf, advance, answerOf, settled}
 use Rattle.theory.specs.Interface as Theory
+use Rattle.demands.specs.Types.{Op, Lane, State, Memory, Change, Next, Turn, Ask}
 use Rattle.demands.specs.Book.{Doing, nothing, busy, Book, kindOf, counted, finished, noteStep}
 use Rattle.demands.specs.Agrees.{LaneAgrees}
 use Rattle.demands.specs.Shadow.{gridOf, linkOf, stageOf, laneFor, sinceOf, takenOf, changeOf, nextOf, memOf, shadow}

@@ -1,4 +1,5 @@
 -- the statements
+pub mod Types
 pub mod Calls
 pub mod Book
 pub mod Agrees

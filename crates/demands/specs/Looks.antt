@@ -8,29 +8,11 @@ use native.Mathlib.Numerals.{add-one}
 use lib.Dec.{ltb, eqb}
 use lib.ListN.{getD}
 use Rattle.numbers.specs.Numbers.{linkProcesses, linkPlaces, segmentOf, packOf, fillOf}
-use Rattle.numbers.specs.declared.Cell.{Cell}
-use Rattle.numbers.specs.declared.Place.{Place}
-use Rattle.lanes.specs.declared.Check.{Check}
-use Rattle.lanes.specs.declared.Stage.{Stage}
-use Rattle.lanes.specs.declared.Stage.the-variants as Stage
-use Rattle.lanes.specs.declared.Op.{Op}
-use Rattle.lanes.specs.declared.Op.the-variants as Op
-use Rattle.lanes.specs.declared.Lane.{Lane}
-use Rattle.lanes.specs.declared.State.{State}
 use Rattle.lanes.specs.Ranges.{laneOf}
-use Rattle.steps.specs.Memory.{Memory}
-use Rattle.steps.specs.declared.Found.{Found}
-use Rattle.steps.specs.declared.Found.the-variants as Found
-use Rattle.steps.specs.declared.Change.the-variants as Change
-use Rattle.steps.specs.declared.Next.{Next}
-use Rattle.steps.specs.declared.Next.the-variants as Next
-use Rattle.steps.specs.declared.Turn.{Turn}
-use Rattle.steps.specs.declared.Turn.the-variants as Turn
 use Rattle.steps.specs.Steps.{readTurn, askedTurn, tombstoneFirst, stageAt, stageNext, entered, checkedTurn}
-use Rattle.grid.specs.declared.Ask.{Ask}
-use Rattle.grid.specs.declared.Ask.the-variants as Ask
 use Rattle.grid.specs.Calls.{cellOf}
 use Rattle.theory.specs.Interface as Theory
+use Rattle.demands.specs.Types.{Cell, Place, Check, Stage, Op, Lane, State, Memory, Found, Change, Next, Turn, Ask}
 use Rattle.demands.specs.Book.{Book, kindOf}
 use Rattle.demands.specs.Agrees.{Holds}
 use Rattle.demands.specs.Shadow.{gridOf, linkOf, checkAt, writeAt, stageOf, nextOf}

@@ -7,13 +7,11 @@ use mathlib.Core.List.{List, [], _∷_}
 use native.Mathlib.Decide.{ℕ-discrete}
 use lib.ListN.{replicate}
 use Rattle.numbers.specs.Numbers.{directoryWords, poolWords, fillOf, logIn, log2, segmentOf, offsetOf, sizeOf}
-use Rattle.numbers.specs.declared.Cell.{Cell}
 use Rattle.lanes.specs.Ranges.{below}
 use Rattle.steps.specs.Memory.{memory}
-use Rattle.grid.specs.declared.Ask.the-variants as Ask
-use Rattle.grid.specs.declared.Answer.the-variants as Answer
 use Rattle.grid.specs.Calls.{openingOf, begunOf}
 use Rattle.theory.specs.Interface.{upd}
+use Rattle.demands.specs.Types.{Cell, Ask, Answer}
 use Rattle.demands.specs.Calls.{Machine, Call, begin, step, World, openedWorld}
 use Rattle.demands.specs.Book.{blank}
 use Rattle.demands.specs.Demand2.{OneOrder}

@@ -5,26 +5,11 @@ use mathlib.Core.Path.{_≡_, refl}
 use lib.Dec.{eqb}
 use lib.ListN.{getD}
 use Rattle.numbers.specs.Numbers.{packOf}
-use Rattle.numbers.specs.declared.Cell.{Cell}
 use Rattle.refusals.specs.Orders.{pick, orders}
-use Rattle.lanes.specs.declared.Stage.{Stage}
-use Rattle.lanes.specs.declared.Stage.the-variants as Stage
-use Rattle.lanes.specs.declared.Op.{Op}
-use Rattle.lanes.specs.declared.Op.the-variants as Op
-use Rattle.lanes.specs.declared.Lane.{Lane}
-use Rattle.lanes.specs.declared.State.{State}
 use Rattle.lanes.specs.Ranges.{laneOf, stateFits}
-use Rattle.steps.specs.Memory.{Memory}
-use Rattle.steps.specs.declared.Sizes.{Sizes}
-use Rattle.steps.specs.declared.Found.{Found}
-use Rattle.steps.specs.declared.Found.the-variants as Found
-use Rattle.steps.specs.declared.Change.the-variants as Change
-use Rattle.steps.specs.declared.Next.the-variants as Next
-use Rattle.steps.specs.declared.Turn.{Turn}
-use Rattle.steps.specs.declared.Turn.the-variants as Turn
 use Rattle.steps.specs.Steps.{goes, check, stageNext, checkedTurn, markTurn, writeTurn, opTurn, turnOf}
-use Rattle.grid.specs.declared.Verdict.the-variants as Verdict
 use Rattle.grid.specs.Calls as Grid
+use Rattle.demands.specs.Types.{Cell, Stage, Op, Lane, State, Memory, Sizes, Found, Change, Next, Turn, Verdict}
 use Rattle.demands.specs.Calls.{Machine}
 
 -- A machine that takes its steps by another list; by ours it is the grid.

@@ -11,15 +11,11 @@ use lib.Dec.{leb, eqb}
 use lib.ListN.{length, getD, replicate, length-replicate, getD-replicate, List·getD-eq-default}
 use Rattle.numbers.specs.Numbers.{mostProcesses, mostCells, poolWords, directoryWords}
 use Rattle.refusals.specs.Orders.{pick}
-use Rattle.refusals.specs.declared.Refusal.{Refusal}
-use Rattle.refusals.specs.declared.Refusal.the-variants as Refusal
 use Rattle.lanes.specs.Ranges.{rest}
 use Rattle.lanes.specs.Laws.{and-left, and-right}
-use Rattle.steps.specs.Memory.{Memory}
-use Rattle.grid.specs.declared.Opening.{Opening}
-use Rattle.grid.specs.declared.Opening.the-variants as Opening
 use Rattle.grid.specs.Calls as Grid
 use Rattle.theory.specs.Interface as Theory
+use Rattle.demands.specs.Types.{Refusal, Memory, Opening}
 use Rattle.demands.specs.Calls.{Accepted}
 use Rattle.demands.specs.Book.{blank, Run}
 use Rattle.demands.specs.Shadow.{gridOf, linkOf, startsIn}

@@ -9,19 +9,10 @@ use native.Mathlib.Omega.{arith}
 use lib.Dec.{ltb}
 use Rattle.numbers.specs.Numbers.{fillOf}
 use Rattle.refusals.specs.Orders.{pick}
-use Rattle.refusals.specs.declared.Refusal.{Refusal}
-use Rattle.refusals.specs.declared.Refusal.the-variants as Refusal
-use Rattle.lanes.specs.declared.State.{State}
 use Rattle.lanes.specs.Ranges.{laneOf}
-use Rattle.steps.specs.Memory.{Memory}
-use Rattle.steps.specs.declared.Next.{Next}
-use Rattle.steps.specs.declared.Next.the-variants as Next
-use Rattle.grid.specs.declared.Ask.{Ask}
-use Rattle.grid.specs.declared.Ask.the-variants as Ask
-use Rattle.grid.specs.declared.Opening.{Opening}
-use Rattle.grid.specs.declared.Stepped.{Stepped}
 use Rattle.grid.specs.Calls as Grid
 use Rattle.theory.specs.Interface as Theory
+use Rattle.demands.specs.Types.{Refusal, State, Memory, Next, Ask, Opening, Stepped}
 use Rattle.demands.specs.Calls.{grid, Call, begin, step, misfit, answerTo}
 use Rattle.demands.specs.Book.{Doing, nothing, busy, Book, kindOf, Run, next, run, start}
 use Rattle.demands.specs.Demand1.{refused, begins, steps, kind}

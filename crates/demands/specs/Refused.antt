@@ -7,28 +7,10 @@ use mathlib.Core.List.{List, [], _∷_}
 use native.Mathlib.Omega.{arith}
 use lib.Seq.{set-getD}
 use Rattle.refusals.specs.Orders.{Rule, _gives_, pick, orders}
-use Rattle.refusals.specs.declared.Refusal.{Refusal}
-use Rattle.refusals.specs.declared.Refusal.the-variants as Refusal
-use Rattle.lanes.specs.declared.Lane.{Lane}
-use Rattle.lanes.specs.declared.State.{State}
 use Rattle.lanes.specs.Ranges.{rest, laneOf, stateFits}
-use Rattle.steps.specs.Memory.{Memory}
-use Rattle.steps.specs.declared.Next.{Next}
-use Rattle.steps.specs.declared.Next.the-variants as Next
-use Rattle.steps.specs.declared.Sizes.{Sizes}
-use Rattle.steps.specs.declared.Turn.{Turn}
-use Rattle.steps.specs.declared.Turn.the-variants as Turn
 use Rattle.steps.specs.Steps.{turnOf}
-use Rattle.grid.specs.declared.Ask.{Ask}
-use Rattle.grid.specs.declared.Acted.{Acted}
-use Rattle.grid.specs.declared.Answer.{Answer}
-use Rattle.grid.specs.declared.Answer.the-variants as Answer
-use Rattle.grid.specs.declared.Opening.{Opening}
-use Rattle.grid.specs.declared.Opening.the-variants as Opening
-use Rattle.grid.specs.declared.Stepped.{Stepped}
-use Rattle.grid.specs.declared.Verdict.{Verdict}
-use Rattle.grid.specs.declared.Verdict.the-variants as Verdict
 use Rattle.grid.specs.Calls as Grid
+use Rattle.demands.specs.Types.{Refusal, Lane, State, Memory, Sizes, Next, Turn, Ask, Answer, Opening, Stepped, Acted, Verdict}
 use Rattle.demands.specs.Calls.{grid}
 use Rattle.demands.specs.Demand1.{refused, begins, steps, kind, beginTable, stepTable, moves, wordTable, refusedOn, Demand1, OpenTable}
 

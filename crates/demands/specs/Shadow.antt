@@ -10,21 +10,10 @@ use lib.ListN.{getD}
 use lib.Pow.{pow-mono}
 use Rattle.numbers.specs.Numbers.{mostCells, mostSegments, segmentOf, offsetOf, directoryWord, processOf, placeOf, fillOf, tombstone}
 use Rattle.numbers.specs.Laws.{segment-bounds, place-at}
-use Rattle.lanes.specs.declared.Check.{Check}
-use Rattle.lanes.specs.declared.Check.the-variants as Check
-use Rattle.lanes.specs.declared.Stage.{Stage}
-use Rattle.lanes.specs.declared.Stage.the-variants as Stage
-use Rattle.lanes.specs.declared.Op.{Op}
-use Rattle.lanes.specs.declared.Op.the-variants as Op
-use Rattle.lanes.specs.declared.State.{State}
 use Rattle.lanes.specs.Ranges.{laneOf}
-use Rattle.steps.specs.Memory.{Memory}
-use Rattle.steps.specs.declared.Change.{Change}
-use Rattle.steps.specs.declared.Change.the-variants as Change
-use Rattle.steps.specs.declared.Next.{Next}
-use Rattle.steps.specs.declared.Next.the-variants as Next
 use Rattle.grid.specs.Calls.{cellOf}
 use Rattle.theory.specs.Interface as Theory
+use Rattle.demands.specs.Types.{Check, Stage, Op, State, Memory, Change, Next}
 use Rattle.demands.specs.Book.{Doing, nothing, busy, Book, kindOf}
 
 -- ---- the grid

@@ -14,9 +14,9 @@ use lib.Seq.{getD-set-same, getD-set-other}
 use Rattle.numbers.specs.Numbers.{mostSegments, linkProcesses, linkPlaces, directoryWord, packOf}
 use Rattle.numbers.specs.Laws.{process-pack, place-pack}
 use Rattle.refusals.specs.Orders.{pick}
-use Rattle.lanes.specs.declared.Lane.{Lane}
 use Rattle.lanes.specs.Ranges.{rest}
 use Rattle.theory.specs.Interface as Theory
+use Rattle.demands.specs.Types.{Lane}
 use Rattle.demands.specs.Book.{Doing}
 use Rattle.demands.specs.Shadow.{linkOf, startsIn}
 

@@ -7,21 +7,10 @@ use native.Mathlib.Decide.{ℕ-discrete}
 use native.Mathlib.Omega.{arith}
 use lib.ListN.{getD}
 use Rattle.numbers.specs.Numbers.{fillOf, logIn, log2, segmentOf, offsetOf, sizeOf}
-use Rattle.refusals.specs.declared.Refusal.the-variants as Refusal
-use Rattle.lanes.specs.declared.Check.the-variants as Check
-use Rattle.lanes.specs.declared.Stage.{Stage}
-use Rattle.lanes.specs.declared.Stage.the-variants as Stage
-use Rattle.lanes.specs.declared.Op.{Op}
-use Rattle.lanes.specs.declared.Op.the-variants as Op
-use Rattle.lanes.specs.declared.State.{State}
 use Rattle.lanes.specs.Ranges.{laneOf, below}
-use Rattle.steps.specs.Memory.{Memory}
-use Rattle.grid.specs.declared.Ask.{Ask}
-use Rattle.grid.specs.declared.Ask.the-variants as Ask
-use Rattle.grid.specs.declared.Answer.{Answer}
-use Rattle.grid.specs.declared.Answer.the-variants as Answer
 use Rattle.grid.specs.Calls.{Outcome, outcome, openingOf, begunOf, verdictOf, beginOf, stepOf, settled, withOp}
 use Rattle.theory.specs.Interface.{upd}
+use Rattle.demands.specs.Types.{Refusal, Check, Stage, Op, State, Memory, Ask, Answer}
 use Rattle.demands.specs.Calls.{Machine, Call, begin, step, World, Accepted}
 use Rattle.demands.specs.Book.{Run, run, start}
 use Rattle.demands.specs.Demand1.{refused, begins, refusedOn, Demand1}

@@ -5,13 +5,9 @@ use mathlib.Core.Path.{_≡_, ap}
 use mathlib.Core.Logic.{_≢_}
 use mathlib.Core.List.{List, List·Memᴰ}
 use Rattle.numbers.specs.Numbers.{fillOf}
-use Rattle.refusals.specs.declared.Refusal.{Refusal}
-use Rattle.refusals.specs.declared.Refusal.the-variants as Refusal
-use Rattle.steps.specs.Memory.{Memory}
-use Rattle.grid.specs.declared.Answer.the-variants as Answer
-use Rattle.grid.specs.declared.Stepped.{Stepped}
 use Rattle.grid.specs.Calls.{Outcome}
 use Rattle.theory.specs.Interface as Theory
+use Rattle.demands.specs.Types.{Refusal, Memory, Answer, Stepped}
 use Rattle.demands.specs.Calls.{grid, Call, begin, step, misfit, World, worldOf, answerTo, worldAfter, Accepted, openedWorld}
 use Rattle.demands.specs.Book.{Book, Run, run, start}
 use Rattle.demands.specs.Demand2.{OneOrder}

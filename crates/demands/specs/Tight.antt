@@ -7,11 +7,9 @@ use mathlib.Core.List.{List, [], _∷_}
 use native.Mathlib.Decide.{ℕ-discrete}
 use Rattle.numbers.specs.Numbers.{logIn, log2, segmentOf, offsetOf, sizeOf}
 use Rattle.lanes.specs.Ranges.{below}
-use Rattle.grid.specs.declared.Ask.the-variants as Ask
-use Rattle.grid.specs.declared.Answer.{Answer}
-use Rattle.grid.specs.declared.Answer.the-variants as Answer
 use Rattle.grid.specs.Calls.{openingOf, begunOf, verdictOf, stepOf}
 use Rattle.theory.specs.Interface.{upd, sum}
+use Rattle.demands.specs.Types.{Ask, Answer}
 use Rattle.demands.specs.Calls.{grid, Call, begin}
 use Rattle.demands.specs.Book.{Run, run, start}
 use Rattle.demands.specs.Demand3.{mostSteps, poolBound}

@@ -8,24 +8,11 @@ use native.Mathlib.Omega.{arith}
 use borrow.Author.Tests.{lt-ltb, le-ltb, le-leb}
 use lib.Seq.{getD-set-same}
 use Rattle.numbers.specs.Numbers.{poolWords}
-use Rattle.refusals.specs.declared.Refusal.{Refusal}
-use Rattle.refusals.specs.declared.Refusal.the-variants as Refusal
-use Rattle.lanes.specs.declared.Op.{Op}
-use Rattle.lanes.specs.declared.Op.the-variants as Op
-use Rattle.lanes.specs.declared.Lane.{Lane}
-use Rattle.lanes.specs.declared.State.{State}
 use Rattle.lanes.specs.Ranges.{rest, laneOf, laneFits, stateFits}
-use Rattle.steps.specs.Memory.{Memory}
 use Rattle.steps.specs.Changes.{topAfter}
-use Rattle.grid.specs.declared.Ask.{Ask}
-use Rattle.grid.specs.declared.Ask.the-variants as Ask
-use Rattle.grid.specs.declared.Answer.{Answer}
-use Rattle.grid.specs.declared.Answer.the-variants as Answer
-use Rattle.grid.specs.declared.Stepped.{Stepped}
-use Rattle.grid.specs.declared.Verdict.{Verdict}
-use Rattle.grid.specs.declared.Verdict.the-variants as Verdict
 use Rattle.grid.specs.Calls as Grid
 use Rattle.theory.specs.Interface as Theory
+use Rattle.demands.specs.Types.{Refusal, Op, Lane, State, Memory, Ask, Answer, Stepped, Verdict}
 use Rattle.demands.specs.Calls.{grid, Call, begin, step, misfit}
 use Rattle.demands.specs.Book.{Doing, nothing, busy, Book, Run, next, noteBegin, noteStep}
 use Rattle.demands.specs.Agrees.{Does, LaneAgrees}

@@ -9,29 +9,13 @@ use native.Mathlib.Omega.{arith}
 use lib.Dec.{eqb}
 use lib.ListN.{length, getD}
 use Rattle.numbers.specs.Numbers.{mostSegments, linkProcesses, linkPlaces, segmentOf, offsetOf, sizeOf, directoryWord, packOf, tombstone}
-use Rattle.numbers.specs.declared.Cell.{Cell}
-use Rattle.numbers.specs.declared.Place.{Place}
 use Rattle.refusals.specs.Orders.{pick}
-use Rattle.lanes.specs.declared.Check.the-variants as Check
-use Rattle.lanes.specs.declared.Stage.{Stage}
-use Rattle.lanes.specs.declared.Stage.the-variants as Stage
-use Rattle.lanes.specs.declared.Op.{Op}
-use Rattle.lanes.specs.declared.Op.the-variants as Op
-use Rattle.lanes.specs.declared.State.{State}
 use Rattle.lanes.specs.Ranges.{laneOf}
-use Rattle.steps.specs.Memory.{Memory}
-use Rattle.steps.specs.declared.Change.{Change}
-use Rattle.steps.specs.declared.Change.the-variants as Change
-use Rattle.steps.specs.declared.Next.{Next}
-use Rattle.steps.specs.declared.Next.the-variants as Next
-use Rattle.steps.specs.declared.Turn.{Turn}
-use Rattle.steps.specs.declared.Turn.the-variants as Turn
 use Rattle.steps.specs.Steps.{goes, startOf, stageNext, entered, stored, markTurn, writeTurn}
 use Rattle.steps.specs.Changes.{memoryAfter}
-use Rattle.grid.specs.declared.Ask.{Ask}
-use Rattle.grid.specs.declared.Ask.the-variants as Ask
 use Rattle.grid.specs.Calls.{cellOf, namedAt, sizesOf}
 use Rattle.theory.specs.Interface as Theory
+use Rattle.demands.specs.Types.{Cell, Place, Check, Stage, Op, State, Memory, Change, Next, Turn, Ask}
 use Rattle.demands.specs.Book.{busy, Book, kindOf}
 use Rattle.demands.specs.Agrees.{Holds, Does}
 use Rattle.demands.specs.Shadow.{gridOf, linkOf, writeAt, stageOf, startsIn, wordsOf}
