@@ -9,7 +9,7 @@ use Rattle.theory.specs.Interface as Theory
 use Rattle.demands.specs.Types.{Lane, State, Memory, Ask}
 use Rattle.demands.specs.Book.{Doing, nothing, busy, Book, kindOf, passed, begun}
 use Rattle.demands.specs.Agrees.{LaneAgrees}
-use Rattle.demands.specs.Shadow.{gridOf, linkOf, laneFor, sinceOf, takenOf, shadow}
+use Rattle.demands.specs.Shadow.{gridOf, laneFor, sinceOf, takenOf, memOf, shadow}
 use Rattle.demands.specs.ShadowLaws.{lane-set, lane-all, upd-self}
 use Rattle.demands.specs.Good.{Held, Good, law, inside, behind}
 
@@ -35,6 +35,11 @@ module _ {s : State} {mem : Memory} {b : Book} (H : Good s mem b) (q : ℕ) (hq 
 
   pub field-same : h l ≡ h (laneOf s q) → _≡_ {A = ℕ → ℕ} (λ r. h (laneOf s r)) (λ r. h (getD (set (s .lanes) q l) r rest))
   field-same e = sym (upd-self (λ r. h (laneOf s r)) q (h (laneOf s q)) refl) ∙ field-set (h (laneOf s q)) e
+
+-- the shared words, part by part
+pub mem-as : {r r′ : ℕ → ℕ} {k k′ : ℕ → Theory.Link} {f f′ d d′ : ℕ → ℕ} {marks : ℕ → ℕ → ℕ} → r ≡ r′ → k ≡ k′ → f ≡ f′ → d ≡ d′
+    → _≡_ {A = Theory.Mem} (record { reading = r; link = k; inForce = f; drawn = d; marks = marks }) (record { reading = r′; link = k′; inForce = f′; drawn = d′; marks = marks })
+mem-as {marks = marks} a b c e = λ z. record { reading = a z; link = b z; inForce = c z; drawn = e z; marks = marks }
 
 -- ---- a beginning
 
@@ -63,16 +68,13 @@ module _ {s : State} {mem : Memory} {b : Book} (H : Good s mem b) (q : ℕ) (a :
   abbrev pub begunLane : Lane
   begunLane = record { marks = laneOf s q .marks; drawn = laneOf s q .drawn; steps = 0; op = opOf a }
 
+  words-kept : behind H .watch .mem ≡ memOf (settled s q begunLane (s .top)) mem (H .marks)
+  words-kept = mem-as refl refl (field-same H q hq begunLane (λ l. l .marks) refl) (field-same H q hq begunLane (λ l. l .drawn) refl)
+
   begun-path : Theory.beginRun (behind H) q (kindOf a) (cellOf a .0) ≡ shadow (settled s q begunLane (s .top)) mem (begun b q a) (H .marks) (H .held)
   begun-path = λ z. record {
     watch = record {
-      mem = record {
-        reading = λ i. getD (mem .readings) i 0;
-        link = λ i. linkOf (getD (mem .links) i 0);
-        inForce = field-same H q hq begunLane (λ l. l .marks) refl z;
-        drawn = field-same H q hq begunLane (λ l. l .drawn) refl z;
-        marks = H .marks;
-      };
+      mem = words-kept z;
       lane = (ap (Theory.upd (behind H .watch .lane) q) (begins-at a (b .now)) ∙ lane-set (b .doing) (s .lanes) q (busy (b .now) a 0) begunLane (inside H q hq) (λ d l. laneFor d (l .op))) z;
       now = suc (b .now);
       since = lane-set (b .doing) (s .lanes) q (busy (b .now) a 0) begunLane (inside H q hq) (λ d l. sinceOf d) z;

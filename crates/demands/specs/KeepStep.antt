@@ -18,7 +18,7 @@ use Rattle.demands.specs.Shadow.{gridOf, linkOf, stageOf, laneFor, since
 use Rattle.demands.specs.ShadowLaws.{list-set, lane-set, lane-all}
 use Rattle.demands.specs.Good.{Held, Lengths, Good, law, inside, behind, at-work, does}
 use Rattle.demands.specs.Goes.{Stores, Carries, turnAs, memory, Goes}
-use Rattle.demands.specs.Keep.{field-set, field-same}
+use Rattle.demands.specs.Keep.{field-set, field-same, mem-as}
 
 -- ---- what the book has after a step
 
@@ -120,13 +120,13 @@ module _ {s : State} {mem : Memory} {b : Book} (H : Good s mem b) (q : ℕ) {beg
 
       by : (c : Change) → Stores mem c
           → Theory.poke (memory H q) q (changeOf c) ≡ memOf (settled s q (advance next (laneAfter c (laneOf s q))) (topAfter c (s .top))) (memoryAfter c mem) (Theory.poke (memory H q) q (changeOf c) .marks)
-      by Change.Nothing h = λ z. record { reading = memory H q .reading; link = memory H q .link; inForce = force Change.Nothing refl z; drawn = drew Change.Nothing refl z; marks = H .marks }
-      by (Change.Reading i v) h = λ z. record { reading = list-set (λ x. x) (mem .readings) (i .0) v 0 h z; link = memory H q .link; inForce = force (Change.Reading i v) refl z; drawn = drew (Change.Reading i v) refl z; marks = H .marks }
-      by (Change.Link i w) h = λ z. record { reading = memory H q .reading; link = list-set linkOf (mem .links) (i .0) w 0 h z; inForce = force (Change.Link i w) refl z; drawn = drew (Change.Link i w) refl z; marks = H .marks }
-      by (Change.Directory k start) h = λ z. record { reading = memory H q .reading; link = memory H q .link; inForce = force (Change.Directory k start) refl z; drawn = drew (Change.Directory k start) refl z; marks = H .marks }
-      by (Change.Mark start n mark) h = λ z. record { reading = memory H q .reading; link = memory H q .link; inForce = force (Change.Mark start n mark) refl z; drawn = drew (Change.Mark start n mark) refl z; marks = Theory.poke (memory H q) q (Theory.setMark (n .0) mark) .marks }
-      by (Change.Marks n) h = λ z. record { reading = memory H q .reading; link = memory H q .link; inForce = field-set H q own (l (Change.Marks n)) (λ l. l .marks) n (advanced next (laneAfter (Change.Marks n) (laneOf s q)) .0) z; drawn = drew (Change.Marks n) refl z; marks = H .marks }
-      by (Change.Top t d) h = λ z. record { reading = memory H q .reading; link = memory H q .link; inForce = force (Change.Top t d) refl z; drawn = field-set H q own (l (Change.Top t d)) (λ l. l .drawn) d (advanced next (laneAfter (Change.Top t d) (laneOf s q)) .1) z; marks = H .marks }
+      by Change.Nothing h = mem-as refl refl (force Change.Nothing refl) (drew Change.Nothing refl)
+      by (Change.Reading i v) h = mem-as (list-set (λ x. x) (mem .readings) (i .0) v 0 h) refl (force (Change.Reading i v) refl) (drew (Change.Reading i v) refl)
+      by (Change.Link i w) h = mem-as refl (list-set linkOf (mem .links) (i .0) w 0 h) (force (Change.Link i w) refl) (drew (Change.Link i w) refl)
+      by (Change.Directory k start) h = mem-as refl refl (force (Change.Directory k start) refl) (drew (Change.Directory k start) refl)
+      by (Change.Mark start n mark) h = mem-as refl refl (force (Change.Mark start n mark) refl) (drew (Change.Mark start n mark) refl)
+      by (Change.Marks n) h = mem-as refl refl (field-set H q own (l (Change.Marks n)) (λ l. l .marks) n (advanced next (laneAfter (Change.Marks n) (laneOf s q)) .0)) (drew (Change.Marks n) refl)
+      by (Change.Top t d) h = mem-as refl refl (force (Change.Top t d) refl) (field-set H q own (l (Change.Top t d)) (λ l. l .drawn) d (advanced next (laneAfter (Change.Top t d) (laneOf s q)) .1))
 
   ended-path : (next : Next) → Theory.finish (behind H .watch) q (kindOf a) (cellOf a .0) (nextOf next) ≡ endedAfter b q began a next
   ended-path (Next.Going o) = refl
