@@ -6,7 +6,7 @@ use Prim.Native.Nat.{ℕ, suc, _+_, _*_, _≤_, _<_}
 use mathlib.Core.Path.{_≡_}
 use Rattle.theory.specs.Interface.{sum}
 use Rattle.demands.specs.Types.{Ask, Answer}
-use Rattle.demands.specs.Calls.{Machine, step}
+use Rattle.demands.specs.Calls.{Machine}
 use Rattle.demands.specs.Book.{Doing, nothing, busy, Book, Run}
 
 abbrev pub mostSteps : Ask → ℕ

@@ -23,7 +23,7 @@ use Rattle.demands.specs.Shadow.{laneFor, sinceOf}
 use Rattle.demands.specs.Good.{Good, law, behind, does, few-steps, top-fits}
 use Rattle.demands.specs.Opens.{opening-open, admitted, good-fresh}
 use Rattle.demands.specs.KeepStep.{doingAfter, good-step}
-use Rattle.demands.specs.Refused.{answers, a-refusal-changes-nothing, opens-by-table}
+use Rattle.demands.specs.Refused.{answers, demand-1-holds, opens-by-table}
 use Rattle.demands.specs.Views.{Begins, refuses, accepts, begins-as, Steps, refuses-step, accepts-step, steps-as, misfits, GoodRun, good-next}
 
 module _ {s : State} {mem : Memory} {b : Book} (H : Good s mem b) where
@@ -148,7 +148,7 @@ module _ (p m first stride : ℕ) where
 -- THE THEOREM
 pub demanded : Demanded grid
 demanded = record {
-  demand-1 = a-refusal-changes-nothing;
+  demand-1 = demand-1-holds;
   opens = opens-by-table;
   by-the-list = record { begins = λ s q a. refl; steps = λ s q mem. refl };
   runs = λ p m first stride mem ok calls.

@@ -89,8 +89,8 @@ module _ (s : State) (q : ℕ) (mem : Memory) where
       by (Verdict.Refused k) e = let same : k ≡ r = cc in ap (λ (x : Stepped). Grid.outcome x mem) (returned s q k ∙ ap (refusedOn s) same)
       by (Verdict.Moved change next) e = absurd (no-refusal (laneOf s q .steps) next r e)
 
-pub a-refusal-changes-nothing : Demand1 grid
-a-refusal-changes-nothing = record { begin-table = begin-by-table; step-table = step-by-table; begin-refused = begin-returns; step-refused = step-returns }
+pub demand-1-holds : Demand1 grid
+demand-1-holds = record { begin-table = begin-by-table; step-table = step-by-table; begin-refused = begin-returns; step-refused = step-returns }
 
 opening-is : (p m first stride : ℕ) (o : Opening) → Grid.openedAs p m first stride o .opening ≡ o
 opening-is p m first stride Opening.Open = refl

@@ -10,9 +10,11 @@ use Rattle.theory.specs.Interface as Theory
 use Rattle.demands.specs.Types.{Refusal, Memory, Answer, Stepped}
 use Rattle.demands.specs.Calls.{grid, Call, begin, step, misfit, World, worldOf, answerTo, worldAfter, Accepted, openedWorld}
 use Rattle.demands.specs.Book.{Book, Run, run, start}
+use Rattle.demands.specs.Agrees.{Agrees}
+use Rattle.demands.specs.Demand1.{kind}
 use Rattle.demands.specs.Demand2.{OneOrder}
 use Rattle.demands.specs.Demand3.{Counted, PoolSpent, PoolSuffices}
-use Rattle.demands.specs.Demanded.{Meets}
+use Rattle.demands.specs.Demanded.{expected, Meets}
 use Rattle.demands.specs.Vanish as Vanish
 use Rattle.demands.specs.Proved.{demanded}
 
@@ -38,6 +40,9 @@ module _ (p m first stride : ℕ) (mem : Memory) (ok : Accepted p m first stride
   met : Meets grid p m first stride after
   met = demanded .runs p m first stride mem ok calls
 
+  pub the-state-agrees : Agrees p m first stride (after .world .state) (after .book)
+  the-state-agrees = met .agrees
+
   pub one-order : OneOrder (fillOf first stride) (after .book)
   one-order = met .one-order
 
@@ -49,6 +54,10 @@ module _ (p m first stride : ℕ) (mem : Memory) (ok : Accepted p m first stride
 
   pub pool-never-short : PoolSuffices p m after
   pool-never-short = met .pool-suffices
+
+  -- 4, 6, 5 at a beginning, 4, 7 at a step, 8 at a step that brings other memories, exactly when the book says so; hence never 9.
+  pub refused-exactly-when : (c : Call p m) → kind (answerTo grid (after .world) c) ≡ expected (after .book) c
+  refused-exactly-when = met .refusals
 
   pub never-nine : (c : Call p m) → answerTo grid (after .world) c ≢ Answer.Refused Refusal.OutOfRange
   never-nine = met .never-nine
