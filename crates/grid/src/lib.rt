@@ -3,7 +3,7 @@ ghost use mathlib.Core.Path.{_≡_};
 ghost use Rattle.steps.specs.Memory.{memory};
 ghost use Rattle.grid.specs.Calls.{outcome, openOf, beginOf, stepOf};
 
-mod acts;
+pub mod acts;
 pub mod begins;
 pub mod opens;
 

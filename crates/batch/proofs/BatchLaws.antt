@@ -1,0 +1,247 @@
+-- Each case of an entry, and the loop over the entries, as laws of their definitions.
+-- Assumes nothing.
+use Prim.Native.Nat.{ℕ, zero, suc, _+_, _<_, _≤_}
+use mathlib.Core.Path.{_≡_, refl, sym, ap, _∙_}
+use mathlib.Core.Bool.{Bool, true, false}
+use mathlib.Core.List.{List}
+use native.Mathlib.Omega.{arith}
+use native.Mathlib.Numerals.{add-one}
+use lib.Dec.{eqb, ltb}
+use lib.ListN.{length, getD, set, length-set}
+use borrow.Author.Tests.{lt-ltb, le-ltb, eq-eqb, ne-eqb, ltb-true, ltb-false}
+use Rattle.numbers.specs.declared.Cell.{Cell}
+use Rattle.refusals.specs.Numbers.{numberOf}
+use Rattle.refusals.specs.Orders.{pick}
+use Rattle.refusals.specs.declared.Refusal.{Refusal}
+use Rattle.refusals.specs.declared.Refusal.the-variants as Refusal
+use Rattle.lanes.specs.declared.Lane.{Lane}
+use Rattle.lanes.specs.declared.State.{State}
+use Rattle.lanes.specs.Ranges.{laneOf, sizesFit, stateFits}
+use Rattle.lanes.specs.Scan.{Passed, passed-all}
+use Rattle.steps.specs.declared.Sizes.{Sizes}
+use Rattle.steps.specs.Memory.{Memory, memory}
+use Rattle.grid.specs.declared.Acted.{Acted}
+use Rattle.grid.specs.declared.Ask.{Ask}
+use Rattle.grid.specs.declared.Ask.the-variants as Ask
+use Rattle.grid.specs.declared.Answer.{Answer}
+use Rattle.grid.specs.declared.Answer.the-variants as Answer
+use Rattle.grid.specs.Calls.{begunOf, effect, actOf, sizesOf, steppedAs, named, Effect, Outcome, outcome, outcomeAs, beginOf, stepOf}
+use Rattle.grid.specs.Inner.{laneAt}
+use Rattle.grid.proofs.StateLaws.{begun-is, step-is}
+use Rattle.batch.specs.Batch.{entered, codeWith, bit, codeOf, Batch, batch, answered, onward, after, least, entries, batchOf, begins, entryOf}
+use Rattle.batch.specs.Kept.{begin-keeps, step-keeps}
+
+pub first-least : (a b : ℕ) → a < b → a ≡ least a b
+first-least a b h = simp (lt-ltb _ _ h)
+
+pub second-least : (a b : ℕ) → b ≤ a → b ≡ least a b
+second-least a b h = simp (le-ltb _ _ h)
+
+pub number-few : (r : Refusal) → numberOf r < 16777216
+number-few Refusal.ProcessCount = omega arith
+number-few Refusal.CellCount = omega arith
+number-few Refusal.LentLength = omega arith
+number-few Refusal.NoSuchProcess = omega arith
+number-few Refusal.NoSuchCell = omega arith
+number-few Refusal.UnderWay = omega arith
+number-few Refusal.NothingUnderWay = omega arith
+number-few Refusal.OtherLengths = omega arith
+number-few Refusal.OutOfRange = omega arith
+number-few Refusal.AtWork = omega arith
+number-few Refusal.NotASchedule = omega arith
+number-few Refusal.Version = omega arith
+number-few Refusal.TooManyCells = omega arith
+number-few Refusal.RaggedRecords = omega arith
+number-few Refusal.RecordKind = omega arith
+number-few Refusal.FileTooLong = omega arith
+
+pub refusal-few : (n : ℕ) (r : Refusal) → n ≡ numberOf r → (5 < 256) × (n < 16777216)
+refusal-few n r e = (omega arith, rw e (number-few r))
+
+module _ (a : Answer) (c : ℕ) where
+  pub code-read : (v n : ℕ) → a ≡ Answer.Read v n → c ≡ codeWith 2 n v → c ≡ codeOf a
+  code-read v n e h = rw e h
+
+  pub code-written : (n : ℕ) → a ≡ Answer.Written n → c ≡ codeWith 3 n 0 → c ≡ codeOf a
+  code-written n e h = rw e h
+
+  pub code-asked : (b : Bool) (n v : ℕ) → a ≡ Answer.Asked b n → v ≡ bit b → c ≡ codeWith 4 n v → c ≡ codeOf a
+  code-asked b n v e f h = rw e (h ∙ rw f)
+
+  pub code-refused : (r : Refusal) (n : ℕ) → a ≡ Answer.Refused r → n ≡ numberOf r → c ≡ codeWith 5 n 0 → c ≡ codeOf a
+  code-refused r n e f h = rw e (h ∙ rw f)
+
+module _ (fits : Bool) (z : Sizes) (q : ℕ) (l : Lane) (seen kind : ℕ) (i : Cell) (v : ℕ) (mem : Memory) (b : Acted) where
+  pub entry-read : kind ≡ 1 → b ≡ begunOf fits (z .p) (z .m) (z .top) q l (Ask.Read i) → effect b mem ≡ entryOf fits z q l seen kind i v mem
+  entry-read h e = simp (eq-eqb _ _ h) (rw e)
+
+  module _ (h : kind ≡ 1 → ⊥) where
+    pub entry-write : kind ≡ 2 → b ≡ begunOf fits (z .p) (z .m) (z .top) q l (Ask.Write i v) → effect b mem ≡ entryOf fits z q l seen kind i v mem
+    entry-write k e = simp (ne-eqb _ _ h, eq-eqb _ _ k) (rw e)
+
+    module _ (k : kind ≡ 2 → ⊥) where
+      pub entry-asked : kind ≡ 3 → b ≡ begunOf fits (z .p) (z .m) (z .top) q l (Ask.Asked i) → effect b mem ≡ entryOf fits z q l seen kind i v mem
+      entry-asked j e = simp (ne-eqb _ _ h, ne-eqb _ _ k, eq-eqb _ _ j) (rw e)
+
+      pub entry-step : (mem′ : Memory) → (kind ≡ 3 → ⊥) → effect b mem′ ≡ actOf fits z q l seen mem → effect b mem′ ≡ entryOf fits z q l seen kind i v mem
+      entry-step mem′ j e = simp (ne-eqb _ _ h, ne-eqb _ _ k, ne-eqb _ _ j) e
+
+pub fits-end : (s : State) (b : Bool) (end i : ℕ) (fits : Bool) → b ≡ sizesFit (s .p) (s .m) (s .top) → end ≡ pick b (s .p) 0 → i ≤ end → end ≤ i
+    → Passed s i fits → fits ≡ stateFits s
+fits-end s b end i fits e f low high h = passed-all s b i fits e is-p h
+  where
+    is-p : b ≡ true → i ≡ s .p
+    is-p x = let k : end ≡ s .p = f ∙ rw x refl in omega arith
+
+-- an entry on the lane at k is the entry on the state
+module _ (s : State) (q k : ℕ) (at : k ≡ laneAt q) (j : ℕ) (from : j ≡ laneAt (named (laneOf s k .op))) (fits : Bool) (e : fits ≡ stateFits s)
+    (mem mem′ : Memory) (kind : ℕ) (i : Cell) (v : ℕ) (b : Acted) where
+  begun-out : (a : Ask) → effect b mem′ ≡ begins fits (sizesOf s) q (laneOf s k) mem a → outcome (steppedAs s k b) mem′ ≡ outcome (beginOf s q a) mem
+  begun-out a f =
+      let g : b ≡ begunOf fits (s .p) (s .m) (s .top) q (laneOf s k) a = ap (λ (x : Effect). x .acted) f in
+      let m : mem′ ≡ mem = ap (λ (x : Effect). x .memory) f in
+      rw (begun-is s q k at (laneOf s k) refl fits a b e g, m)
+
+  by : (w x y : Bool)
+      → effect b mem′ ≡ pick w (begins fits (sizesOf s) q (laneOf s k) mem (Ask.Read i)) (pick x (begins fits (sizesOf s) q (laneOf s k) mem (Ask.Write i v))
+      (pick y (begins fits (sizesOf s) q (laneOf s k) mem (Ask.Asked i)) (actOf fits (sizesOf s) q (laneOf s k) (laneOf s j .marks) mem)))
+      → outcome (steppedAs s k b) mem′ ≡ pick w (outcome (beginOf s q (Ask.Read i)) mem) (pick x (outcome (beginOf s q (Ask.Write i v)) mem)
+      (pick y (outcome (beginOf s q (Ask.Asked i)) mem) (stepOf s q mem)))
+  by true x y f = begun-out (Ask.Read i) f
+  by false true y f = begun-out (Ask.Write i v) f
+  by false false true f = begun-out (Ask.Asked i) f
+  by false false false f = step-is s q k at (laneOf s k) refl j (laneOf s j) from refl fits mem mem′ b e f
+
+  pub entry-is : effect b mem′ ≡ entryOf fits (sizesOf s) q (laneOf s k) (laneOf s j .marks) kind i v mem
+      → outcome (steppedAs s k b) mem′ ≡ entered s mem kind q i v
+  entry-is f = by (eqb kind 1) (eqb kind 2) (eqb kind 3) f
+
+-- an entry keeps a state in its ranges there
+pub entered-keeps : (s : State) (mem : Memory) (kind q : ℕ) (i : Cell) (v : ℕ) → stateFits (entered s mem kind q i v .stepped .state) ≡ stateFits s
+entered-keeps s mem kind q i v = by (eqb kind 1) (eqb kind 2) (eqb kind 3)
+  where
+    by : (w x y : Bool) → stateFits (pick w (outcome (beginOf s q (Ask.Read i)) mem) (pick x (outcome (beginOf s q (Ask.Write i v)) mem)
+        (pick y (outcome (beginOf s q (Ask.Asked i)) mem) (stepOf s q mem))) .stepped .state) ≡ stateFits s
+    by true x y = begin-keeps s q (Ask.Read i)
+    by false true y = begin-keeps s q (Ask.Write i v)
+    by false false true = begin-keeps s q (Ask.Asked i)
+    by false false false = step-keeps s q mem
+
+-- the loop: the first i entries are done
+module _ (kinds processes cells values : List ℕ) (s : State) (mem : Memory) (answers : List ℕ) where
+  abbrev pub Done : ℕ → Batch → Type 0
+  Done i b = b ≡ after kinds processes cells values (batch s mem answers) i
+
+  pub done-none : Done 0 (batch s mem answers)
+  unfolding after
+  done-none = refl
+
+  pub done-more : (i : ℕ) (t : State) (mem₁ mem₂ : Memory) (answers₁ : List ℕ) (k q kind v code : ℕ) (c : Cell) (b : Acted)
+      → Done i (batch t mem₁ answers₁) → q ≡ getD processes i 0 → kind ≡ getD kinds i 0 → c ≡ record { 0 = getD cells i 0 } → v ≡ getD values i 0
+      → outcome (steppedAs t k b) mem₂ ≡ entered t mem₁ kind q c v → code ≡ codeOf (b .answer)
+      → Done (i + 1) (batch (steppedAs t k b .state) mem₂ (set answers₁ i code))
+  unfolding after
+  done-more i t mem₁ mem₂ answers₁ k q kind v code c b h eq ek ec ev out f =
+      rw (add-one i)
+      (ap (λ (x : ℕ). batch (steppedAs t k b .state) mem₂ (set answers₁ i x)) f
+      ∙ ap (λ (x : Outcome). batch (x .stepped .state) (x .memory) (set answers₁ i (codeOf (x .stepped .answer)))) out′
+      ∙ ap (λ (x : Batch). onward kinds processes cells values x i) h)
+    where
+      out′ : outcome (steppedAs t k b) mem₂ ≡ entered t mem₁ (getD kinds i 0) (getD processes i 0) (record { 0 = getD cells i 0 }) (getD values i 0)
+      out′ = out ∙ rw (ek, eq, ec, ev)
+
+-- the least of the lengths is no more than any
+least-low : (a b : ℕ) → (least a b ≤ a) × (least a b ≤ b)
+least-low a b = by (ltb a b) refl
+  where
+    by : (x : Bool) → ltb a b ≡ x → (pick x a b ≤ a) × (pick x a b ≤ b)
+    by true h = let k = ltb-true a b h in (omega arith, omega arith)
+    by false h = let k = ltb-false a b h in (omega arith, omega arith)
+
+pub record Few (n : ℕ) (kinds processes cells values answers : List ℕ) : Type 0 where
+  pub in-kinds : n ≤ length kinds
+  pub in-processes : n ≤ length processes
+  pub in-cells : n ≤ length cells
+  pub in-values : n ≤ length values
+  pub in-answers : n ≤ length answers
+
+pub few-entries : (kinds processes cells values answers : List ℕ) → Few (entries kinds processes cells values answers) kinds processes cells values answers
+few-entries kinds processes cells values answers =
+    let a = least-low (length kinds) (length processes) in
+    let b = least-low (length cells) (length values) in
+    let c = least-low (least (length kinds) (length processes)) (least (length cells) (length values)) in
+    let d = least-low (least (least (length kinds) (length processes)) (least (length cells) (length values))) (length answers) in
+    record { in-kinds = omega arith; in-processes = omega arith; in-cells = omega arith; in-values = omega arith; in-answers = omega arith }
+
+-- what the loop keeps
+pub record Going (kinds₀ processes₀ cells₀ values₀ answers₀ readings₀ links₀ directory₀ pool₀ : List ℕ) (s : State) (fits : Bool) (n : ℕ)
+    (answers readings links directory pool : List ℕ) (t : State) (i : ℕ) : Type 0 where
+  pub at : i ≤ n
+  pub few : Few n kinds₀ processes₀ cells₀ values₀ answers₀
+  pub number : n ≡ entries kinds₀ processes₀ cells₀ values₀ answers₀
+  pub same-answers : length answers ≡ length answers₀
+  pub same-readings : length readings ≡ length readings₀
+  pub same-links : length links ≡ length links₀
+  pub same-directory : length directory ≡ length directory₀
+  pub same-pool : length pool ≡ length pool₀
+  pub fine : fits ≡ stateFits t
+  pub done : Done kinds₀ processes₀ cells₀ values₀ s (memory readings₀ links₀ directory₀ pool₀) answers₀ i
+      (batch t (memory readings links directory pool) answers)
+
+module _ (kinds processes cells values answers₀ readings₀ links₀ directory₀ pool₀ : List ℕ) (s : State) (fits : Bool) (n : ℕ) where
+  pub going-start : n ≡ entries kinds processes cells values answers₀ → fits ≡ stateFits s
+      → Going kinds processes cells values answers₀ readings₀ links₀ directory₀ pool₀ s fits n answers₀ readings₀ links₀ directory₀ pool₀ s 0
+  going-start e f = record {
+    at = omega arith;
+    few = rw e (few-entries kinds processes cells values answers₀);
+    number = e;
+    same-answers = refl;
+    same-readings = refl;
+    same-links = refl;
+    same-directory = refl;
+    same-pool = refl;
+    fine = f;
+    done = done-none kinds processes cells values s (memory readings₀ links₀ directory₀ pool₀) answers₀;
+  }
+
+  module _ (answers readings links directory pool : List ℕ) (t : State) (i : ℕ)
+      (G : Going kinds processes cells values answers₀ readings₀ links₀ directory₀ pool₀ s fits n answers readings links directory pool t i) where
+    pub going-more : (answers′ readings′ links′ directory′ pool′ : List ℕ) (k j code : ℕ) (b : Acted) → i < n → k ≡ laneAt (getD processes i 0)
+        → j ≡ laneAt (named (laneOf t k .op))
+        → effect b (memory readings′ links′ directory′ pool′)
+        ≡ entryOf fits (sizesOf t) (getD processes i 0) (laneOf t k) (laneOf t j .marks) (getD kinds i 0) (record { 0 = getD cells i 0 }) (getD values i 0)
+        (memory readings links directory pool)
+        → code ≡ codeOf (b .answer) → answers′ ≡ set answers i code → length readings′ ≡ length readings → length links′ ≡ length links → length directory′ ≡ length directory
+        → length pool′ ≡ length pool
+        → Going kinds processes cells values answers₀ readings₀ links₀ directory₀ pool₀ s fits n answers′ readings′ links′ directory′ pool′
+        (steppedAs t k b .state) (i + 1)
+    going-more answers′ readings′ links′ directory′ pool′ k j code b low at from f g ea er el ed ep = rw ea (record {
+      at = omega arith;
+      few = G .few;
+      number = G .number;
+      same-answers = length-set answers i code ∙ G .same-answers;
+      same-readings = er ∙ G .same-readings;
+      same-links = el ∙ G .same-links;
+      same-directory = ed ∙ G .same-directory;
+      same-pool = ep ∙ G .same-pool;
+      fine = G .fine ∙ sym (ap (λ (x : Outcome). stateFits (x .stepped .state)) out ∙ entered-keeps t (memory readings links directory pool) (getD kinds i 0) (getD processes i 0) (record { 0 = getD cells i 0 }) (getD values i 0));
+      done = done-more kinds processes cells values s (memory readings₀ links₀ directory₀ pool₀) answers₀ i t (memory readings links directory pool)
+          (memory readings′ links′ directory′ pool′) answers k (getD processes i 0) (getD kinds i 0) (getD values i 0) code (record { 0 = getD cells i 0 }) b
+          (G .done) refl refl refl refl out g;
+    })
+      where
+        out : outcome (steppedAs t k b) (memory readings′ links′ directory′ pool′)
+            ≡ entered t (memory readings links directory pool) (getD kinds i 0) (getD processes i 0) (record { 0 = getD cells i 0 }) (getD values i 0)
+        out = entry-is t (getD processes i 0) k at j from fits (G .fine) (memory readings links directory pool) (memory readings′ links′ directory′ pool′)
+            (getD kinds i 0) (record { 0 = getD cells i 0 }) (getD values i 0) b f
+
+    pub going-end : n ≤ i → batch t (memory readings links directory pool) answers
+        ≡ batchOf s (memory readings₀ links₀ directory₀ pool₀) answers₀ kinds processes cells values
+    unfolding batchOf
+    going-end h =
+        let e : i ≡ entries kinds processes cells values answers₀ = let a = G .at in let b = G .number in omega arith in
+        G .done ∙ ap (after kinds processes cells values (batch s (memory readings₀ links₀ directory₀ pool₀) answers₀)) e
+
+pub entries-are : (kinds processes cells values answers : List ℕ) (a b c n : ℕ) → a ≡ least (length kinds) (length processes)
+    → b ≡ least (length cells) (length values) → c ≡ least a b → n ≡ least c (length answers) → n ≡ entries kinds processes cells values answers
+entries-are kinds processes cells values answers a b c n e f g h = h ∙ rw (g, e, f)

@@ -1,0 +1,103 @@
+-- `batch::code_of` meets its contract.
+-- Assumes nothing.
+use Rattle.batch.proofs.BatchLaws.{refusal-few, code-read, code-written, code-asked, code-refused}
+use borrow.Author.Needs.{needs}
+use Rattle.batch.proofs.code_of.Statement.{statement}
+use Rattle.batch.proofs.code_of.Tie as tie
+
+enum-told : tie.Need-enum-told
+enum-told c = search needs
+
+code-requires : tie.Need-code-requires
+code-requires c κs = search needs
+
+enum-told-2 : tie.Need-enum-told-2
+enum-told-2 c = search needs
+
+code-requires-2 : tie.Need-code-requires-2
+code-requires-2 c κs = search needs
+
+enum-known-a : tie.Need-enum-known-a
+enum-known-a c = search needs
+
+cast-code : tie.Need-cast-code
+cast-code c = search needs
+
+code-requires-3 : tie.Need-code-requires-3
+code-requires-3 c κs = search needs
+
+enum-known-a-2 : tie.Need-enum-known-a-2
+enum-known-a-2 c = search needs
+
+cast-code-2 : tie.Need-cast-code-2
+cast-code-2 c = search needs
+
+code-requires-4 : tie.Need-code-requires-4
+code-requires-4 c κs = search needs
+
+enum-known-a-3 : tie.Need-enum-known-a-3
+enum-known-a-3 c = search needs
+
+cast-code-3 : tie.Need-cast-code-3
+cast-code-3 c = search needs
+
+bit-requires : tie.Need-bit-requires
+bit-requires c κs = search needs
+
+code-requires-5 : tie.Need-code-requires-5
+code-requires-5 c κs = search needs
+
+enum-known-a-4 : tie.Need-enum-known-a-4
+enum-known-a-4 c = search needs
+
+number-requires : tie.Need-number-requires
+number-requires c κs = search needs
+
+code-requires-6 : tie.Need-code-requires-6
+code-requires-6 c κs = search (refusal-few)
+
+returns : tie.Need-returns
+returns c = search needs
+
+returns-2 : tie.Need-returns-2
+returns-2 c = search needs
+
+returns-3 : tie.Need-returns-3
+returns-3 c = search (code-read)
+
+returns-4 : tie.Need-returns-4
+returns-4 c = search (code-written)
+
+returns-5 : tie.Need-returns-5
+returns-5 c = search (code-asked)
+
+returns-6 : tie.Need-returns-6
+returns-6 c = search (code-refused)
+
+pub code-of-spec : {M : Type 1} → statement M
+code-of-spec =
+    tie.close
+    (tie.spec
+    enum-told
+    code-requires
+    enum-told-2
+    code-requires-2
+    enum-known-a
+    cast-code
+    code-requires-3
+    enum-known-a-2
+    cast-code-2
+    code-requires-4
+    enum-known-a-3
+    cast-code-3
+    bit-requires
+    code-requires-5
+    enum-known-a-4
+    number-requires
+    code-requires-6
+    returns
+    returns-2
+    returns-3
+    returns-4
+    returns-5
+    returns-6)

@@ -1,0 +1,86 @@
+-- A list of begins and steps on one grid: the fold of the definitions of begin and step.
+-- Assumes nothing.
+use Prim.Native.Nat.{ℕ, zero, suc, _+_, _*_}
+use mathlib.Core.Bool.{Bool, true, false}
+use mathlib.Core.List.{List}
+use lib.Dec.{ltb, eqb}
+use lib.ListN.{length, getD, set}
+use Rattle.numbers.specs.declared.Cell.{Cell}
+use Rattle.refusals.specs.Numbers.{numberOf}
+use Rattle.refusals.specs.Orders.{pick}
+use Rattle.lanes.specs.declared.Lane.{Lane}
+use Rattle.lanes.specs.declared.State.{State}
+use Rattle.lanes.specs.Ranges.{laneOf, stateFits}
+use Rattle.steps.specs.declared.Sizes.{Sizes}
+use Rattle.steps.specs.Memory.{Memory}
+use Rattle.grid.specs.declared.Ask.the-variants as Ask
+use Rattle.grid.specs.declared.Answer.{Answer}
+use Rattle.grid.specs.declared.Answer.the-variants as Answer
+use Rattle.grid.specs.Calls.{beginOf, begunOf, Effect, effect, actOf, Outcome, outcome, stepOf}
+
+-- An entry of kind 1 begins a read, 2 a write, 3 an asked; one of any other kind is a step.
+abbrev pub entered : State → Memory → ℕ → ℕ → Cell → ℕ → Outcome
+entered s mem kind q i v =
+    pick (eqb kind 1) (outcome (beginOf s q (Ask.Read i)) mem)
+    (pick (eqb kind 2) (outcome (beginOf s q (Ask.Write i v)) mem)
+    (pick (eqb kind 3) (outcome (beginOf s q (Ask.Asked i)) mem) (stepOf s q mem)))
+
+-- An answer as a word: its kind, 256 times its steps or its refusal's number, 2^32 times its value.
+abbrev pub codeWith : ℕ → ℕ → ℕ → ℕ
+codeWith kind count value = kind + 256 * count + 4294967296 * value
+
+abbrev pub bit : Bool → ℕ
+bit true = 1
+bit false = 0
+
+abbrev pub codeOf : Answer → ℕ
+codeOf Answer.Begun = codeWith 0 0 0
+codeOf Answer.Going = codeWith 1 0 0
+codeOf (Answer.Read v n) = codeWith 2 n v
+codeOf (Answer.Written n) = codeWith 3 n 0
+codeOf (Answer.Asked b n) = codeWith 4 n (bit b)
+codeOf (Answer.Refused r) = codeWith 5 (numberOf r) 0
+
+-- What the entries leave: the state, the memories and the words of the answers.
+pub record Batch : Type 0 where
+  pub state : State
+  pub memory : Memory
+  pub answers : List ℕ
+
+abbrev pub batch : State → Memory → List ℕ → Batch
+batch s mem answers = record { state = s; memory = mem; answers = answers }
+
+abbrev pub answered : Batch → ℕ → Outcome → Batch
+answered b k o = batch (o .stepped .state) (o .memory) (set (b .answers) k (codeOf (o .stepped .answer)))
+
+-- Entry k, and the first n entries, one after the other.
+module _ (kinds processes cells values : List ℕ) where
+  abbrev pub onward : Batch → ℕ → Batch
+  onward b k =
+      answered b k (entered (b .state) (b .memory) (getD kinds k 0) (getD processes k 0) (record { 0 = getD cells k 0 }) (getD values k 0))
+
+  unfoldable pub after : Batch → ℕ → Batch
+  after b zero = b
+  after b (suc n) = onward (after b n) n
+
+-- As many entries as the shortest of the lists has.
+abbrev pub least : ℕ → ℕ → ℕ
+least a b = pick (ltb a b) a b
+
+abbrev pub entries : List ℕ → List ℕ → List ℕ → List ℕ → List ℕ → ℕ
+entries kinds processes cells values answers =
+    least (least (least (length kinds) (length processes)) (least (length cells) (length values))) (length answers)
+
+unfoldable pub batchOf : State → Memory → List ℕ → List ℕ → List ℕ → List ℕ → List ℕ → Batch
+batchOf s mem answers kinds processes cells values =
+    after kinds processes cells values (batch s mem answers) (entries kinds processes cells values answers)
+
+-- An entry on the lane of its process, where the state's numbers are known to fit or not.
+abbrev pub begins : Bool → Sizes → ℕ → Lane → Memory → Rattle.grid.specs.declared.Ask.Ask → Effect
+begins fits z q l mem a = effect (begunOf fits (z .p) (z .m) (z .top) q l a) mem
+
+abbrev pub entryOf : Bool → Sizes → ℕ → Lane → ℕ → ℕ → Cell → ℕ → Memory → Effect
+entryOf fits z q l seen kind i v mem =
+    pick (eqb kind 1) (begins fits z q l mem (Ask.Read i))
+    (pick (eqb kind 2) (begins fits z q l mem (Ask.Write i v))
+    (pick (eqb kind 3) (begins fits z q l mem (Ask.Asked i)) (actOf fits z q l seen mem)))

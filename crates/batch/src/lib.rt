@@ -1,0 +1,166 @@
+// Many begins and steps in one call: the state stays in one local, and is looked at once.
+ghost use mathlib.Core.Path.{_≡_};
+ghost use Prim.Native.Nat.{_<_};
+ghost use lib.ListN.{set};
+ghost use Rattle.lanes.specs.Ranges.{stateFits};
+ghost use Rattle.steps.specs.Memory.{memory};
+ghost use Rattle.grid.specs.Calls.{effect};
+ghost use Rattle.grid.specs.Inner.{Judged};
+ghost use Rattle.batch.specs.Batch.{least, bit, codeWith, codeOf, entryOf, batch, batchOf};
+use grid::Acted;
+use grid::Answer;
+use grid::Ask;
+use grid::acts;
+use grid::begins;
+use lanes::Lane;
+use lanes::State;
+use numbers::Cell;
+use numbers::Process;
+use steps::Sizes;
+
+fn state_fits(s: State) -> bool
+    ensures { λ r. ⌜ r ≡ stateFits s ⌝ }
+{
+    let mut fits = lanes::sizes_fit(s.p, s.m, s.top);
+    let end = begins::lanes_below(fits, s.p);
+    let mut i: usize = 0;
+    while i < end {
+        fits = begins::both(fits, lanes::lane_fits(s.p, s.m, s.lanes[i]));
+        i = i + 1;
+    }
+    fits
+}
+
+fn least(a: usize, b: usize) -> usize
+    ensures { λ r. ⌜ r ≡ least a b ⌝ }
+{
+    if a < b { a } else { b }
+}
+
+fn code(kind: u64, count: u32, value: u32) -> u64
+    requires { ⌜ (kind < 256) × (count < 16777216) ⌝ }
+    ensures { λ r. ⌜ r ≡ codeWith kind count value ⌝ }
+{
+    kind + 256 * (count as u64) + 4294967296 * (value as u64)
+}
+
+fn bit(b: bool) -> u32
+    ensures { λ r. ⌜ r ≡ bit b ⌝ }
+{
+    if b { 1 } else { 0 }
+}
+
+fn code_of(a: Answer) -> u64
+    ensures { λ r. ⌜ r ≡ codeOf a ⌝ }
+{
+    match a {
+        Answer::Begun => code(0, 0, 0),
+        Answer::Going => code(1, 0, 0),
+        Answer::Read(v, n) => code(2, n as u32, v),
+        Answer::Written(n) => code(3, n as u32, 0),
+        Answer::Asked(b, n) => code(4, n as u32, bit(b)),
+        Answer::Refused(r) => code(5, refusals::number(r), 0),
+    }
+}
+
+// One entry: a begin of the kinds 1 to 3, else a step.
+fn entry(
+    fits: bool,
+    z: Sizes,
+    q: Process,
+    l: Lane,
+    seen: u32,
+    kind: u8,
+    i: Cell,
+    v: u32,
+    readings: &mut [u32],
+    links: &mut [u64],
+    directory: &mut [u32],
+    pool: &mut [u32],
+) -> Acted
+    requires { ⌜ Judged fits z (q .0) l ⌝ }
+    ensures { λ r. ⌜ effect r (memory (now (readings .exit)) (now (links .exit)) (now (directory .exit)) (now (pool .exit))) ≡ entryOf fits z (q .0) l seen kind i v (memory (now (readings .entry)) (now (links .entry)) (now (directory .entry)) (now (pool .entry))) ⌝ }
+{
+    if kind == 1 {
+        return begins::begun(fits, z.p, z.m, z.top, q, l, Ask::Read(i));
+    }
+    if kind == 2 {
+        return begins::begun(fits, z.p, z.m, z.top, q, l, Ask::Write(i, v));
+    }
+    if kind == 3 {
+        return begins::begun(fits, z.p, z.m, z.top, q, l, Ask::Asked(i));
+    }
+    acts::act(fits, z, q, l, seen, readings, links, directory, pool)
+}
+
+fn put(a: &mut [u64], i: usize, w: u64)
+    ensures { λ _. ⌜ now (a .exit) ≡ set (now (a .entry)) i w ⌝ }
+{
+    if i < a.len() {
+        a[i] = w;
+    }
+}
+
+// As many entries as the shortest list has, each on the state and the memories that the one before it left. Every call keeps a
+// state in its ranges there, and one out of them as it is: so one look at the lanes serves them all.
+pub fn run(
+    s: State,
+    kinds: &[u8],
+    processes: &[u32],
+    cells: &[u32],
+    values: &[u32],
+    answers: &mut [u64],
+    readings: &mut [u32],
+    links: &mut [u64],
+    directory: &mut [u32],
+    pool: &mut [u32],
+) -> State
+    ensures { λ r. ⌜ batch r (memory (now (readings .exit)) (now (links .exit)) (now (directory .exit)) (now (pool .exit))) (now (answers .exit)) ≡ batchOf s (memory (now (readings .entry)) (now (links .entry)) (now (directory .entry)) (now (pool .entry))) (now (answers .entry)) (now (kinds .entry)) (now (processes .entry)) (now (cells .entry)) (now (values .entry)) ⌝ }
+{
+    let mut t = s;
+    let fits = state_fits(s);
+    let n = least(
+        least(
+            least(kinds.len(), processes.len()),
+            least(cells.len(), values.len()),
+        ),
+        answers.len(),
+    );
+    let mut i: usize = 0;
+    while i < n {
+        let q = Process(processes[i]);
+        let k = begins::lane_of(q);
+        let l = t.lanes[k];
+        let o = l.op;
+        let j = begins::lane_of(acts::named(o));
+        let other = t.lanes[j];
+        let z = Sizes {
+            p: t.p,
+            m: t.m,
+            first: t.first,
+            step: t.step,
+            top: t.top,
+        };
+        let b = entry(
+            fits,
+            z,
+            q,
+            l,
+            other.marks,
+            kinds[i],
+            Cell(cells[i]),
+            values[i],
+            readings,
+            links,
+            directory,
+            pool,
+        );
+        let lane = b.lane;
+        let answer = b.answer;
+        t.top = b.top;
+        t.lanes[k] = lane;
+        put(answers, i, code_of(answer));
+        i = i + 1;
+    }
+    t
+}
