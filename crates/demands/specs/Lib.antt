@@ -21,6 +21,7 @@ pub mod KeepStep
 pub mod Views
 -- the theorems
 pub mod Opens
+pub mod Runs
 pub mod Proved
 pub mod Vanish
 pub mod Theorems

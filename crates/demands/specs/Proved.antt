@@ -4,7 +4,7 @@ use Prim.Native.Nat.{ℕ, suc, _<_}
 use mathlib.Core.Path.{_≡_, refl, sym, ap, _∙_, subst}
 use mathlib.Core.Logic.{_⊎_, inl, inr, _≢_}
 use mathlib.Core.Bool.{Bool, true, false, not}
-use mathlib.Core.List.{List, [], _∷_, List·Memᴰ}
+use mathlib.Core.List.{List·Memᴰ}
 use native.Mathlib.Omega.{arith}
 use lib.Dec.{ltb}
 use Rattle.numbers.specs.Numbers.{fillOf}
@@ -14,17 +14,17 @@ use Rattle.grid.specs.Calls as Grid
 use Rattle.theory.specs.Interface as Theory
 use Rattle.demands.specs.Types.{Refusal, State, Memory, Next, Ask, Opening, Stepped}
 use Rattle.demands.specs.Calls.{grid, Call, begin, step, misfit, answerTo}
-use Rattle.demands.specs.Book.{Doing, nothing, busy, Book, kindOf, Run, next, run, start}
+use Rattle.demands.specs.Book.{Doing, nothing, busy, Book, kindOf, Run}
 use Rattle.demands.specs.Demand1.{refused, begins, steps, kind}
 use Rattle.demands.specs.Demand2.{Unfinished, OneOrder}
 use Rattle.demands.specs.Demand3.{mostSteps, Answers, Counts}
 use Rattle.demands.specs.Demanded.{isBusy, expected, Meets, Demanded}
 use Rattle.demands.specs.Shadow.{laneFor, sinceOf}
 use Rattle.demands.specs.Good.{Good, law, behind, does, few-steps, top-fits}
-use Rattle.demands.specs.Opens.{opening-open, admitted, good-fresh}
 use Rattle.demands.specs.KeepStep.{doingAfter, good-step}
 use Rattle.demands.specs.Refused.{answers, demand-1-holds, opens-by-table}
-use Rattle.demands.specs.Views.{Begins, refuses, accepts, begins-as, Steps, refuses-step, accepts-step, steps-as, misfits, GoodRun, good-next}
+use Rattle.demands.specs.Views.{Begins, refuses, accepts, begins-as, Steps, refuses-step, accepts-step, steps-as, misfits, GoodRun}
+use Rattle.demands.specs.Runs.{with-numbers, after-any-calls}
 
 module _ {s : State} {mem : Memory} {b : Book} (H : Good s mem b) where
   -- ---- demand 2
@@ -129,30 +129,11 @@ meets r H = record {
   never-nine = λ c e. expected-nine (r .book) c (sym (refusals H c) ∙ ap kind e);
 }
 
-module _ (p m first stride : ℕ) where
-  -- p, m and the filling rule stay
-  abbrev with-numbers : Run → Run
-  with-numbers r =
-      record {
-        world = record { state = record { p = p; m = m; first = first; step = stride; top = r .world .state .top; lanes = r .world .state .lanes }; memory = r .world .memory };
-        book = r .book;
-      }
-
-  meets-run : (cs : List (Call p m)) (r : Run) → GoodRun (with-numbers r) → Meets grid p m first stride (run grid (with-numbers r) cs)
-  unfolding run
-  meets-run [] r H = meets (with-numbers r) H
-  meets-run (begin q a ∷ cs) r H = let c : Call p m = begin q a in meets-run cs (next grid (with-numbers r) c) (good-next (with-numbers r) H c)
-  meets-run (step q ∷ cs) r H = let c : Call p m = step q in meets-run cs (next grid (with-numbers r) c) (good-next (with-numbers r) H c)
-  meets-run (misfit q lent h ∷ cs) r H = let c : Call p m = misfit q lent h in meets-run cs (next grid (with-numbers r) c) (good-next (with-numbers r) H c)
-
 -- THE THEOREM
 pub demanded : Demanded grid
 demanded = record {
   demand-1 = demand-1-holds;
   opens = opens-by-table;
   by-the-list = record { begins = λ s q a. refl; steps = λ s q mem. refl };
-  runs = λ p m first stride mem ok calls.
-      let is = opening-open p m first stride mem ok in
-      subst (λ (o : Opening). Meets grid p m first stride (run grid (start (record { state = Grid.openedAs p m first stride o .state; memory = mem })) calls)) (sym is)
-      (meets-run p m first stride calls (start (record { state = Grid.fresh p m first stride; memory = mem })) (good-fresh p m first stride mem (admitted p m mem is)));
+  runs = λ p m first stride. after-any-calls p m first stride (Meets grid p m first stride) (λ r H. meets (with-numbers p m first stride r) H);
 }

@@ -7,6 +7,7 @@ use Rattle.theory.specs.Base.{upd-same}
 use Rattle.theory.specs.Array.{Op}
 use Rattle.theory.specs.Segments.{off-inside, pow-pos}
 use Rattle.theory.specs.Machine.{Grid, mostMarks, poolWords, Lawful, Link, Stage, Lane, idle, busy, Next, go, end, takeTurn, nextLane}
+use Rattle.theory.specs.Words.{address}
 use Rattle.theory.specs.Run.{Run}
 use Rattle.theory.specs.OneOrder.{OneOrder}
 use Rattle.theory.specs.Standing.{frontAt, front}
@@ -95,6 +96,13 @@ module _ {G : Grid} (A : Lawful G) {R : Run} (H : Whole G R) where
       by : (l : Lane) → R .watch .lane r ≡ l → ready G l (R .watch .mem .drawn r) ≤ G .shape .segments
       by idle e = drawn-fits r
       by (busy o i g) e = at o i g e
+
+  -- a place in force is found through the directory, inside the pool, where its mark lies
+  pub place-read : (r n : ℕ) → r < G .p → n < R .watch .mem .inForce r
+      → (G .shape .seg n < G .shape .segments) × Inside G (R .words .directory r (G .shape .seg n)) n × (R .words .pool (address G (R .words) r n) ≡ R .watch .mem .marks r n)
+  place-read r n hr h = let k : n < H .used r = omega (arith, H .inv .counts r .1) in
+      let c = H .layout .cover r n k in
+      (omega (arith, c, ready-fits r), segment-inside r n hr c, sym (H .layout .marks r n hr k))
 
   -- the word that the next step touches lies inside its memory
   pub touches : (q : ℕ) {o : Op} {i : ℕ} {g : Stage} → R .watch .lane q ≡ busy o i g → Touch G (R .words) q i g

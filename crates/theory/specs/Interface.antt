@@ -4,6 +4,7 @@ pub use Rattle.theory.specs.Base.{pick, upd-same, upd-other}
 unfoldable pub use Rattle.theory.specs.Base.{upd}
 pub use Rattle.theory.specs.Array.{Op, read, asked, write, Ans, got, told, done}
 pub use Rattle.theory.specs.Order.{Done, Entry, Orderly, Is, Before}
+pub use Rattle.theory.specs.OrderLaws.{valueIn, writtenIn}
 pub use Rattle.theory.specs.Shape.{Shape}
 -- the machine
 pub use Rattle.theory.specs.Machine.{Grid, mostMarks, poolWords, Link, mk}
@@ -23,5 +24,6 @@ pub use Rattle.theory.specs.Standing.{front, frontAt}
 pub use Rattle.theory.specs.OneOrder.{Pending, OneOrder}
 pub use Rattle.theory.specs.Ticks.{bound}
 pub use Rattle.theory.specs.Touch.{Inside, Touch}
-pub use Rattle.theory.specs.Consequences.{Reported, one-order, steps-under-way, steps-reported, pool-bound, top-fits, drawn-fits, marks-fit, front-fits, process-fits, cell-fits, touches, mark-read}
+pub use Rattle.theory.specs.Consequences.{Reported, one-order, steps-under-way, steps-reported, pool-bound, top-fits, drawn-fits, marks-fit, front-fits, process-fits, cell-fits, place-read, touches, mark-read}
+pub use Rattle.theory.specs.AtRest.{CellAtRest, unwritten, written, all-ended, cell-at-rest}
 pub use Rattle.theory.specs.RealTime.{ended-first, real-time-order}

@@ -54,5 +54,6 @@ pub mod Timely
 pub mod Whole
 pub mod Touch
 pub mod Consequences
+pub mod AtRest
 pub mod Interface
 pub mod Trial
