@@ -1,0 +1,8 @@
+-- the statement
+pub mod AtRest
+-- the proof
+pub mod Looked
+pub mod Cells
+pub mod Hours
+-- the theorems
+pub mod Theorems
