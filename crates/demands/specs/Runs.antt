@@ -1,7 +1,7 @@
 -- What holds of every good run holds after any calls on an opened grid: the one induction over calls.
 -- Assumes nothing.
 use Prim.Native.Nat.{ℕ}
-use mathlib.Core.Path.{_≡_, sym, subst}
+use mathlib.Core.Path.{sym, subst}
 use mathlib.Core.List.{List, [], _∷_}
 use Rattle.steps.specs.Memory.{Memory}
 use Rattle.grid.specs.declared.Opening.{Opening}

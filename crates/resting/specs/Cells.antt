@@ -1,15 +1,14 @@
 -- In a good state with no operation under way: the proof's order is of finished operations, and each cell shows the array's value.
 -- Assumes nothing.
-use Prim.Native.Nat.{ℕ, _+_, _≤_, _<_}
+use Prim.Native.Nat.{ℕ, _+_, _<_}
 use mathlib.Core.Path.{_≡_, refl, sym, ap, _∙_, subst}
 use mathlib.Core.Logic.{inl, _≢_}
-use mathlib.Core.Bool.{true, false}
 use mathlib.Core.List.{List, List·Memᴰ}
 use native.Mathlib.Decide.{decLt}
 use native.Mathlib.Omega.{arith}
 use borrow.Author.Tests.{eq-eqb, ne-eqb}
 use lib.Dec.{eqb}
-use lib.ListN.{length, getD}
+use lib.ListN.{getD}
 use Rattle.numbers.specs.Numbers.{mostSegments, segmentOf, offsetOf, processOf, placeOf, fillOf}
 use Rattle.refusals.specs.Orders.{pick}
 use Rattle.lanes.specs.declared.State.{State}
@@ -50,7 +49,7 @@ module _ {s : State} {mem : Memory} {b : Book} (H : Good s mem b) (rest : (q : �
   pub all-finished : (e : Theory.Entry) → List·Memᴰ e order → (d : Theory.Done) × List·Memᴰ d (b .ended) × Theory.Is e d
   all-finished = Theory.all-ended (H .whole) still
 
-  pub the-order : OneOrder (fillOf (s .first) (s .step)) b
+  abbrev pub the-order : OneOrder (fillOf (s .first) (s .step)) b
   the-order = record { order = order; orderly = H .whole .inv .logs .orderly; complete = H .whole .inv .logs .complete; sound = λ e m. inl (all-finished e m) }
 
   -- ---- a cell

@@ -1,1 +1,50 @@
--- later
+-- In a good state with no operation under way: the scan finds it at rest, and the hour summary is of the array's values.
+-- Assumes nothing.
+use Prim.Native.Nat.{ℕ, _+_, _*_, _/_, _≤_, _<_}
+use mathlib.Core.Path.{_≡_, ap}
+use mathlib.Core.Bool.{true}
+use native.Mathlib.Omega.{arith}
+use borrow.Author.Tests.{lt-ltb, le-ltb}
+use Rattle.numbers.specs.Numbers.{fillOf}
+use Rattle.refusals.specs.declared.Refusal.the-variants as Refusal
+use Rattle.lanes.specs.declared.State.{State}
+use Rattle.lanes.specs.Ranges.{laneOf}
+use Rattle.lanes.specs.Laws.{below-all}
+use Rattle.steps.specs.Memory.{Memory}
+use Rattle.grid.specs.Calls.{idle}
+use Rattle.quiet.specs.declared.Scan.the-variants as Scan
+use Rattle.quiet.specs.Quiet.{atRest, scanOf}
+use Rattle.summary.specs.declared.Summary.the-variants as Summary
+use Rattle.summary.specs.Summary.{summaryOf}
+use Rattle.demands.specs.Book.{nothing, Book}
+use Rattle.demands.specs.Agrees.{LaneAgrees}
+use Rattle.demands.specs.Good.{Good, lengths-fit, state-fits}
+use Rattle.resting.specs.AtRest.{hourIn}
+use Rattle.resting.specs.Cells.{nobody, order, reading-shown}
+
+module _ {s : State} {mem : Memory} {b : Book} (H : Good s mem b) (rest : (q : ℕ) → q < s .p → b .doing q ≡ nothing) where
+  idle-at : (q : ℕ) → idle (laneOf s q .op) ≡ true
+  idle-at q = let h : LaneAgrees (laneOf s q) nothing = rw (nobody H rest q) at (H .agrees q) in ap idle (h .0)
+
+  at-rest : atRest s ≡ true
+  at-rest = below-all (s .p) (λ (q : ℕ). idle (laneOf s q .op)) (λ q h. idle-at q)
+
+  pub scan-shown : scanOf s ≡ Scan.AtRest
+  scan-shown = rw (state-fits H, at-rest)
+
+  pub hours-shown : (h : ℕ) → h < s .m / 4 → summaryOf s h mem ≡ Summary.Of (hourIn (fillOf (s .first) (s .step)) (order H rest) h)
+  unfolding summaryOf
+  hours-shown h hh =
+      rw (
+        scan-shown,
+        lengths-fit (H .lengths),
+        lt-ltb h (s .m / 4) hh,
+        reading-shown H rest (4 * h) (omega arith),
+        reading-shown H rest (4 * h + 1) (omega arith),
+        reading-shown H rest (4 * h + 2) (omega arith),
+        reading-shown H rest (4 * h + 3) (omega arith),
+      )
+
+  pub no-hour-shown : (h : ℕ) → s .m / 4 ≤ h → summaryOf s h mem ≡ Summary.Refused Refusal.NoSuchCell
+  unfolding summaryOf
+  no-hour-shown h hh = rw (scan-shown, lengths-fit (H .lengths), le-ltb h (s .m / 4) hh)

@@ -41,5 +41,10 @@ module _ (s : State) (i : ℕ) (links directory pool : List ℕ) where
         → lookedAt s i links directory pool ≡ pick (eqb mark i) Found.Written (Found.NotWritten link)
     unfolding lookedAt
     by-mark mark h inside e =
-        rw (lt-ltb (processOf link) (s .p) named, lt-ltb (processOf link) mostProcesses has-lane, lt-ltb (placeOf link) (laneOf s (processOf link) .marks) h,
-            lt-ltb (startOf directory (processOf link) (placeOf link) + offsetOf (placeOf link)) (length pool) inside, e)
+        rw (
+          lt-ltb (processOf link) (s .p) named,
+          lt-ltb (processOf link) mostProcesses has-lane,
+          lt-ltb (placeOf link) (laneOf s (processOf link) .marks) h,
+          lt-ltb (startOf directory (processOf link) (placeOf link) + offsetOf (placeOf link)) (length pool) inside,
+          e,
+        )

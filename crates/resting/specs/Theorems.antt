@@ -1,1 +1,73 @@
--- later
+-- The theorems, for all numbers, every memory that open accepts, and all calls after which no operation is under way.
+-- Assumes nothing.
+use Prim.Native.Nat.{ℕ, _/_, _<_}
+use mathlib.Core.Path.{_≡_}
+use mathlib.Core.List.{List}
+use native.Mathlib.Decide.{decLt}
+use native.Mathlib.Omega.{arith}
+use Rattle.numbers.specs.Numbers.{fillOf}
+use Rattle.refusals.specs.declared.Refusal.{Refusal}
+use Rattle.refusals.specs.declared.Refusal.the-variants as Refusal
+use Rattle.lanes.specs.declared.State.{State}
+use Rattle.steps.specs.Memory.{Memory}
+use Rattle.steps.specs.declared.Got.the-variants as Got
+use Rattle.quiet.specs.declared.Scan.the-variants as Scan
+use Rattle.quiet.specs.Quiet.{scanOf, readingAt}
+use Rattle.summary.specs.declared.Summary.the-variants as Summary
+use Rattle.summary.specs.Summary.{cellAt, summaryOf}
+use Rattle.theory.specs.Interface.{Entry, valueIn, writtenIn}
+use Rattle.demands.specs.Calls.{Call, Accepted}
+use Rattle.demands.specs.Book.{Run}
+use Rattle.demands.specs.Views.{GoodRun}
+use Rattle.demands.specs.Runs.{with-numbers, after-any-calls}
+use Rattle.demands.specs.Theorems.{after}
+use Rattle.resting.specs.AtRest.{Resting, Tells, looked, hourIn, Shown}
+use Rattle.resting.specs.Cells as Cells
+use Rattle.resting.specs.Hours as Hours
+
+good-shows : (r : Run) → GoodRun r → Resting (r .world .state .p) r → Shown (r .world .state .m) (fillOf (r .world .state .first) (r .world .state .step)) r
+good-shows r H rest = record {
+  one-order = Cells.the-order H rest;
+  finished = Cells.all-finished H rest;
+  written = Cells.written-shown H rest;
+  reading = Cells.reading-shown H rest;
+  scan = Hours.scan-shown H rest;
+  hours = Hours.hours-shown H rest;
+  no-hour = Hours.no-hour-shown H rest;
+}
+
+module _ (p m first stride : ℕ) (mem : Memory) (ok : Accepted p m first stride mem) (calls : List (Call p m)) where
+  -- THE THEOREM
+  pub shown-at-rest : Resting p (after p m first stride mem ok calls) → Shown m (fillOf first stride) (after p m first stride mem ok calls)
+  shown-at-rest =
+      after-any-calls p m first stride (λ r. Resting p r → Shown m (fillOf first stride) r) (λ r H. good-shows (with-numbers p m first stride r) H) mem ok calls
+
+  module _ (rest : Resting p (after p m first stride mem ok calls)) where
+    abbrev pub state : State
+    state = after p m first stride mem ok calls .world .state
+
+    abbrev pub memory : Memory
+    memory = after p m first stride mem ok calls .world .memory
+
+    abbrev pub order : List Entry
+    order = shown-at-rest rest .one-order .order
+
+    pub scan-at-rest : scanOf state ≡ Scan.AtRest
+    scan-at-rest = shown-at-rest rest .scan
+
+    pub written-at-rest : (i : ℕ) → i < m → Tells (looked (after p m first stride mem ok calls) i) (writtenIn order i)
+    written-at-rest = shown-at-rest rest .written
+
+    pub reading-at-rest : (i : ℕ) → i < m → readingAt state (cellAt i) memory ≡ Got.Word (valueIn (fillOf first stride) order i)
+    reading-at-rest = shown-at-rest rest .reading
+
+    pub summary-at-rest : (h : ℕ) → h < m / 4 → summaryOf state h memory ≡ Summary.Of (hourIn (fillOf first stride) order h)
+    summary-at-rest = shown-at-rest rest .hours
+
+    -- 9 (state), 8, 10 and 9 (word) do not occur.
+    pub refused-with-five-alone : (h : ℕ) (r : Refusal) → summaryOf state h memory ≡ Summary.Refused r → r ≡ Refusal.NoSuchCell
+    refused-with-five-alone h r e = by (decLt h (m / 4))
+      where
+        by : Dec (h < m / 4) → r ≡ Refusal.NoSuchCell
+        by (yes k) = let z = summary-at-rest h k in absurd (let y : _≡_ {A = ℕ} 0 1 = cc in omega arith)
+        by (no k) = let z = shown-at-rest rest .no-hour h (omega arith) in cc
