@@ -1,10 +1,10 @@
 // All vectors of an input, one after the other.
 ghost use Prim.Native.Nat.{_<_};
+use super::four;
+use super::four::Filled;
+use super::four::Memories;
 use super::make;
 use super::make::Made;
-use super::memories;
-use super::memories::Lending;
-use super::memories::Lent;
 use super::memories::least;
 use super::out;
 use super::show;
@@ -15,19 +15,6 @@ use super::vector::Fault;
 pub enum Went {
     On(usize, usize),
     Damaged(Fault),
-}
-
-// The four memories, as the vector has them, and the word after them.
-pub struct Memories {
-    pub readings: Lent,
-    pub links: Lent,
-    pub directory: Lent,
-    pub pool: Lent,
-}
-
-pub enum Filled {
-    Damaged(Fault),
-    Memories(Memories),
 }
 
 // The six lines of a call.
@@ -97,63 +84,6 @@ fn on_parts(
     )
 }
 
-// Two memories, one after the other.
-pub struct Pair {
-    pub first: Lending,
-    pub second: Lending,
-}
-
-fn of_cells(input: &[u64], before: Lending, readings: &mut [u32], links: &mut [u64]) -> Pair {
-    let first = memories::lend32(input, before, readings);
-    let second = memories::lend64(input, first, links);
-    Pair {
-        first: first,
-        second: second,
-    }
-}
-
-fn of_marks(input: &[u64], before: Lending, directory: &mut [u32], pool: &mut [u32]) -> Pair {
-    let first = memories::lend32(input, before, directory);
-    let second = memories::lend32(input, first, pool);
-    Pair {
-        first: first,
-        second: second,
-    }
-}
-
-// A damaged memory leaves those after it damaged too.
-fn gathered(cells: Pair, marks: Pair) -> Filled {
-    let readings = cells.first;
-    let links = cells.second;
-    let directory = marks.first;
-    let pool = marks.second;
-    match pool {
-        Lending::Damaged(f) => Filled::Damaged(f),
-        Lending::Lent(last) => Filled::Memories(Memories {
-            readings: memories::numbers_of(readings),
-            links: memories::numbers_of(links),
-            directory: memories::numbers_of(directory),
-            pool: last,
-        }),
-    }
-}
-
-// The memories of the vector at word `base`, put into the lent words.
-fn memories_at(
-    input: &[u64],
-    base: usize,
-    readings: &mut [u32],
-    links: &mut [u64],
-    directory: &mut [u32],
-    pool: &mut [u32],
-) -> Filled {
-    let head = memories::lent_first(input, base);
-    let cells = of_cells(input, head, readings, links);
-    let before = cells.second;
-    let marks = of_marks(input, before, directory, pool);
-    gathered(cells, marks)
-}
-
 // The vector at word `base`.
 fn one(
     input: &[u64],
@@ -165,7 +95,7 @@ fn one(
     buf: &mut [u8],
     at: usize,
 ) -> Went {
-    let filled = memories_at(input, base, readings, links, directory, pool);
+    let filled = four::memories_at(input, base, readings, links, directory, pool);
     match filled {
         Filled::Damaged(f) => Went::Damaged(f),
         Filled::Memories(as_lent) => {

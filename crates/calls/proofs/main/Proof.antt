@@ -1,51 +1,38 @@
+-- `calls::main` meets its contract.
+-- Assumes nothing.
 use mathlib.Core.Path.{sym}
 use lib.Seq.{length-take-le}
 use borrow.Author.Needs.{needs}
 use Rattle.calls.proofs.main.Statement.{statement}
 use Rattle.calls.proofs.main.Tie as tie
-use Rattle.calls.proofs.main.Reads as reads
-use Rattle.calls.proofs.main.Lts as lts
-use Rattle.calls.proofs.input.take.Reads as take-reads
-use Rattle.calls.proofs.work.Reads as work-reads
-use Rattle.io.proofs.write_all.Reads as write-all-reads
 
--- src/main.rt:54:29
 slice-aggregate-take : tie.Need-slice-aggregate-take
 slice-aggregate-take c = search needs
 
--- src/main.rt:54:9
 take-requires : tie.Need-take-requires
 take-requires c κs = search needs
 
--- src/main.rt:55:17
 mul-if1 : tie.Need-mul-if1
 mul-if1 c = search needs
 
--- src/main.rt:57:14
 array-share-prefix-words : tie.Need-array-share-prefix-words
 array-share-prefix-words c = search needs
 
--- src/main.rt:57:14
 slice-aggregate-work : tie.Need-slice-aggregate-work
 slice-aggregate-work c = sym (length-take-le _ _ (search needs))
 
--- src/main.rt:57:9
 work-requires : tie.Need-work-requires
 work-requires c κs = search needs
 
--- src/main.rt:59:38
 slice-aggregate-write-all : tie.Need-slice-aggregate-write-all
 slice-aggregate-write-all c = search needs
 
--- src/main.rt:59:9
 write-all-requires : tie.Need-write-all-requires
 write-all-requires c κs = search needs
 
--- src/main.rt:52:1
 returns : tie.Need-returns
 returns c = search needs
 
--- src/main.rt:52:1
 returns-2 : tie.Need-returns-2
 returns-2 c = search needs
 

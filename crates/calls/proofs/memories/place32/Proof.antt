@@ -1,16 +1,11 @@
+-- `calls::memories::place32` meets its contract.
+-- Assumes nothing.
 use borrow.Author.Needs.{needs}
 use mathlib.Core.Path.{_≡_}
 use Prim.Native.Nat.{_≤_, _-_}
 use lib.ListN.{length}
 use Rattle.calls.proofs.memories.place32.Statement.{statement}
 use Rattle.calls.proofs.memories.place32.Tie as tie
-use Rattle.calls.proofs.memories.place32.Reads as reads
-use Rattle.calls.proofs.memories.place32.Lts as lts
-use Rattle.calls.proofs.memories.fill32.Reads as fill32-reads
-use Rattle.calls.proofs.memories.least.Reads as least-reads
-use Rattle.calls.proofs.memories.set32.Reads as set32-reads
-use Rattle.calls.proofs.words.at.Reads as at-reads
-use Rattle.calls.proofs.words.low32.Reads as low32-reads
 
 abbrev Inv-loop : tie.InvT-loop
 Inv-loop input base memory₀ end k₀ memory k = (k ≤ end) × (length memory ≡ length memory₀)
@@ -18,71 +13,54 @@ Inv-loop input base memory₀ end k₀ memory k = (k ≤ end) × (length memory 
 abbrev μ-loop : tie.MeasureT-loop
 μ-loop input base memory₀ end k₀ memory k = end - k
 
--- src/memories.rt:155:27
 low32-requires : tie.Need-low32-requires Inv-loop μ-loop
 low32-requires c κs = search needs
 
--- src/memories.rt:155:5
 fill32-requires : tie.Need-fill32-requires Inv-loop μ-loop
 fill32-requires c κs = search needs
 
--- src/memories.rt:156:9
 least-requires : tie.Need-least-requires Inv-loop μ-loop
 least-requires c κs = search needs
 
--- src/memories.rt:158:5
 loop-holds : tie.Need-loop-holds Inv-loop μ-loop
 loop-holds c = search needs
 
--- src/memories.rt:159:44
 mul-at : tie.Need-mul-at Inv-loop μ-loop
 mul-at c = search needs
 
--- src/memories.rt:159:40
 add-at : tie.Need-add-at Inv-loop μ-loop
 add-at c = search needs
 
--- src/memories.rt:159:17
 at-requires : tie.Need-at-requires Inv-loop μ-loop
 at-requires c κs = search needs
 
--- src/memories.rt:160:59
 mul-at-2 : tie.Need-mul-at-2 Inv-loop μ-loop
 mul-at-2 c = search needs
 
--- src/memories.rt:160:55
 add-at-2 : tie.Need-add-at-2 Inv-loop μ-loop
 add-at-2 c = search needs
 
--- src/memories.rt:160:32
 at-requires-2 : tie.Need-at-requires-2 Inv-loop μ-loop
 at-requires-2 c κs = search needs
 
--- src/memories.rt:160:26
 low32-requires-2 : tie.Need-low32-requires-2 Inv-loop μ-loop
 low32-requires-2 c κs = search needs
 
--- src/memories.rt:160:9
 set32-requires : tie.Need-set32-requires Inv-loop μ-loop
 set32-requires c κs = search needs
 
--- src/memories.rt:161:13
 add-k : tie.Need-add-k Inv-loop μ-loop
 add-k c = search needs
 
--- src/memories.rt:158:5
 loop-less : tie.Need-loop-less Inv-loop μ-loop
 loop-less c = search needs
 
--- src/memories.rt:158:5
 loop-again : tie.Need-loop-again Inv-loop μ-loop
 loop-again c = search needs
 
--- src/memories.rt:154:1
 same-length : tie.Need-same-length Inv-loop μ-loop
 same-length c = search needs
 
--- src/memories.rt:154:1
 returns : tie.Need-returns Inv-loop μ-loop
 returns c = search needs
 

@@ -1,14 +1,11 @@
+-- `calls::run::all` meets its contract.
+-- Assumes nothing.
 use borrow.Author.Needs.{needs}
 use mathlib.Core.Path.{_≡_}
-use Prim.Native.Nat.{_*_, _/_, _-_, _≤_}
+use Prim.Native.Nat.{_-_, _≤_}
 use lib.ListN.{length}
 use Rattle.calls.proofs.run.all.Statement.{statement}
 use Rattle.calls.proofs.run.all.Tie as tie
-use Rattle.calls.proofs.run.all.Reads as reads
-use Rattle.calls.proofs.run.all.Lts as lts
-use Rattle.calls.proofs.out.flush.Reads as flush-reads
-use Rattle.calls.proofs.run.one.Reads as one-reads
-use Rattle.calls.proofs.run.settled.Reads as settled-reads
 
 abbrev Inv-loop : tie.InvT-loop
 Inv-loop input end readings₀ links₀ directory₀ pool₀ buf₀ base₀ at₀ k₀ readings links directory pool buf base at k = (k ≤ base) × ((length readings ≡ length readings₀) × ((length links ≡ length links₀) × ((length directory ≡ length directory₀) × ((length pool ≡ length pool₀) × (length buf ≡ length buf₀)))))
@@ -16,55 +13,42 @@ Inv-loop input end readings₀ links₀ directory₀ pool₀ buf₀ base₀ at�
 abbrev μ-loop : tie.MeasureT-loop
 μ-loop input end readings₀ links₀ directory₀ pool₀ buf₀ base₀ at₀ k₀ readings links directory pool buf base at k = end - base
 
--- src/run.rt:246:5
 loop-holds : tie.Need-loop-holds Inv-loop μ-loop
 loop-holds c = search needs
 
--- src/run.rt:247:13
 one-requires : tie.Need-one-requires Inv-loop μ-loop
 one-requires c κs = search needs
 
--- src/run.rt:248:13
 settled-requires : tie.Need-settled-requires Inv-loop μ-loop
 settled-requires c κs = search needs
 
--- src/run.rt:251:13
 add-k : tie.Need-add-k Inv-loop μ-loop
 add-k c = search needs
 
--- src/run.rt:246:5
 loop-less : tie.Need-loop-less Inv-loop μ-loop
 loop-less c = search needs
 
--- src/run.rt:246:5
 loop-again : tie.Need-loop-again Inv-loop μ-loop
 loop-again c = search needs
 
--- src/run.rt:253:5
 flush-requires : tie.Need-flush-requires Inv-loop μ-loop
 flush-requires c κs = search needs
 
--- src/run.rt:234:1
 same-length : tie.Need-same-length Inv-loop μ-loop
 same-length c = search needs
 
--- src/run.rt:234:1
 same-length-2 : tie.Need-same-length-2 Inv-loop μ-loop
 same-length-2 c = search needs
 
--- src/run.rt:234:1
 same-length-3 : tie.Need-same-length-3 Inv-loop μ-loop
 same-length-3 c = search needs
 
--- src/run.rt:234:1
 same-length-4 : tie.Need-same-length-4 Inv-loop μ-loop
 same-length-4 c = search needs
 
--- src/run.rt:234:1
 same-length-5 : tie.Need-same-length-5 Inv-loop μ-loop
 same-length-5 c = search needs
 
--- src/run.rt:234:1
 returns : tie.Need-returns Inv-loop μ-loop
 returns c = search needs
 

@@ -1,15 +1,11 @@
+-- `calls::show::memory64` meets its contract.
+-- Assumes nothing.
 use borrow.Author.Needs.{needs}
 use mathlib.Core.Path.{_≡_}
 use Prim.Native.Nat.{_≤_, _-_}
 use lib.ListN.{length}
 use Rattle.calls.proofs.show.memory64.Statement.{statement}
 use Rattle.calls.proofs.show.memory64.Tie as tie
-use Rattle.calls.proofs.show.memory64.Reads as reads
-use Rattle.calls.proofs.show.memory64.Lts as lts
-use Rattle.calls.proofs.out.bytes.Reads as bytes-reads
-use Rattle.calls.proofs.out.newline.Reads as newline-reads
-use Rattle.calls.proofs.out.next_number.Reads as next-number-reads
-use Rattle.calls.proofs.show.word.Reads as word-reads
 
 abbrev Inv-loop : tie.InvT-loop
 Inv-loop buf₀ at name memory fill e e₀ i₀ buf e' i = (i ≤ length memory) × (length buf ≡ length buf₀)
@@ -17,51 +13,39 @@ Inv-loop buf₀ at name memory fill e e₀ i₀ buf e' i = (i ≤ length memory)
 abbrev μ-loop : tie.MeasureT-loop
 μ-loop buf₀ at name memory fill e e₀ i₀ buf e' i = length memory - i
 
--- src/show.rt:127:9
 bytes-requires : tie.Need-bytes-requires Inv-loop μ-loop
 bytes-requires c κs = search needs
 
--- src/show.rt:128:9
 next-number-requires : tie.Need-next-number-requires Inv-loop μ-loop
 next-number-requires c κs = search needs
 
--- src/show.rt:130:5
 loop-holds : tie.Need-loop-holds Inv-loop μ-loop
 loop-holds c = search needs
 
--- src/show.rt:131:29
 mul-word : tie.Need-mul-word Inv-loop μ-loop
 mul-word c = search needs
 
--- src/show.rt:131:29
 shared-slice-read-word : tie.Need-shared-slice-read-word Inv-loop μ-loop
 shared-slice-read-word c = search needs
 
--- src/show.rt:131:9
 word-requires : tie.Need-word-requires Inv-loop μ-loop
 word-requires c κs = search needs
 
--- src/show.rt:132:13
 add-i : tie.Need-add-i Inv-loop μ-loop
 add-i c = search needs
 
--- src/show.rt:130:5
 loop-less : tie.Need-loop-less Inv-loop μ-loop
 loop-less c = search needs
 
--- src/show.rt:130:5
 loop-again : tie.Need-loop-again Inv-loop μ-loop
 loop-again c = search needs
 
--- src/show.rt:134:5
 newline-requires : tie.Need-newline-requires Inv-loop μ-loop
 newline-requires c κs = search needs
 
--- src/show.rt:126:1
 same-length : tie.Need-same-length Inv-loop μ-loop
 same-length c = search needs
 
--- src/show.rt:126:1
 returns : tie.Need-returns Inv-loop μ-loop
 returns c = search needs
 

@@ -1,15 +1,11 @@
+-- `calls::show::state` meets its contract.
+-- Assumes nothing.
 use borrow.Author.Needs.{needs}
 use mathlib.Core.Path.{_≡_}
 use Prim.Native.Nat.{_≤_, _-_}
 use lib.ListN.{length}
 use Rattle.calls.proofs.show.state.Statement.{statement}
 use Rattle.calls.proofs.show.state.Tie as tie
-use Rattle.calls.proofs.show.state.Reads as reads
-use Rattle.calls.proofs.show.state.Lts as lts
-use Rattle.calls.proofs.nine.nine_of.Reads as nine-of-reads
-use Rattle.calls.proofs.out.newline.Reads as newline-reads
-use Rattle.calls.proofs.show.lane.Reads as lane-reads
-use Rattle.calls.proofs.show.sizes.Reads as sizes-reads
 
 abbrev Inv-loop : tie.InvT-loop
 Inv-loop buf₀ at lanes e₀ q₀ buf e q = (q ≤ 16) × (length buf ≡ length buf₀)
@@ -17,51 +13,39 @@ Inv-loop buf₀ at lanes e₀ q₀ buf e q = (q ≤ 16) × (length buf ≡ lengt
 abbrev μ-loop : tie.MeasureT-loop
 μ-loop buf₀ at lanes e₀ q₀ buf e q = 16 - q
 
--- src/show.rt:90:9
 sizes-requires : tie.Need-sizes-requires Inv-loop μ-loop
 sizes-requires c κs = search needs
 
--- src/show.rt:92:5
 loop-holds : tie.Need-loop-holds Inv-loop μ-loop
 loop-holds c = search needs
 
--- src/show.rt:93:40
 mul-nine-of : tie.Need-mul-nine-of Inv-loop μ-loop
 mul-nine-of c = search needs
 
--- src/show.rt:93:40
 array-copy-out-nine-of : tie.Need-array-copy-out-nine-of Inv-loop μ-loop
 array-copy-out-nine-of c = search needs
 
--- src/show.rt:93:26
 nine-of-requires : tie.Need-nine-of-requires Inv-loop μ-loop
 nine-of-requires c κs = search needs
 
--- src/show.rt:93:9
 lane-requires : tie.Need-lane-requires Inv-loop μ-loop
 lane-requires c κs = search needs
 
--- src/show.rt:94:13
 add-q : tie.Need-add-q Inv-loop μ-loop
 add-q c = search needs
 
--- src/show.rt:92:5
 loop-less : tie.Need-loop-less Inv-loop μ-loop
 loop-less c = search needs
 
--- src/show.rt:92:5
 loop-again : tie.Need-loop-again Inv-loop μ-loop
 loop-again c = search needs
 
--- src/show.rt:96:5
 newline-requires : tie.Need-newline-requires Inv-loop μ-loop
 newline-requires c κs = search needs
 
--- src/show.rt:88:1
 same-length : tie.Need-same-length Inv-loop μ-loop
 same-length c = search needs
 
--- src/show.rt:88:1
 returns : tie.Need-returns Inv-loop μ-loop
 returns c = search needs
 

@@ -1,12 +1,9 @@
+-- `calls::vector::numbers_seen` meets its contract.
+-- Assumes nothing.
 use borrow.Author.Needs.{needs}
-use mathlib.Core.Path.{_≡_}
 use Prim.Native.Nat.{_≤_, _-_}
-use lib.ListN.{length}
 use Rattle.calls.proofs.vector.numbers_seen.Statement.{statement}
 use Rattle.calls.proofs.vector.numbers_seen.Tie as tie
-use Rattle.calls.proofs.vector.numbers_seen.Reads as reads
-use Rattle.calls.proofs.vector.numbers_seen.Lts as lts
-use Rattle.calls.proofs.words.at.Reads as at-reads
 
 abbrev Inv-loop : tie.InvT-loop
 Inv-loop input base k₀ k = k ≤ 10
@@ -14,31 +11,24 @@ Inv-loop input base k₀ k = k ≤ 10
 abbrev μ-loop : tie.MeasureT-loop
 μ-loop input base k₀ k = 10 - k
 
--- src/vector.rt:88:5
 loop-holds : tie.Need-loop-holds Inv-loop μ-loop
 loop-holds c = search needs
 
--- src/vector.rt:89:23
 at-requires : tie.Need-at-requires Inv-loop μ-loop
 at-requires c κs = search needs
 
--- src/vector.rt:90:13
 returns : tie.Need-returns Inv-loop μ-loop
 returns c = search needs
 
--- src/vector.rt:92:13
 add-k : tie.Need-add-k Inv-loop μ-loop
 add-k c = search needs
 
--- src/vector.rt:88:5
 loop-less : tie.Need-loop-less Inv-loop μ-loop
 loop-less c = search needs
 
--- src/vector.rt:88:5
 loop-again : tie.Need-loop-again Inv-loop μ-loop
 loop-again c = search needs
 
--- src/vector.rt:86:1
 returns-2 : tie.Need-returns-2 Inv-loop μ-loop
 returns-2 c = search needs
 

@@ -1,15 +1,11 @@
+-- `calls::vector::state_of` meets its contract.
+-- Assumes nothing.
 use borrow.Author.Needs.{needs}
 use mathlib.Core.Path.{_≡_}
 use Prim.Native.Nat.{_≤_, _-_}
 use lib.ListN.{length}
 use Rattle.calls.proofs.vector.state_of.Statement.{statement}
 use Rattle.calls.proofs.vector.state_of.Tie as tie
-use Rattle.calls.proofs.vector.state_of.Reads as reads
-use Rattle.calls.proofs.vector.state_of.Lts as lts
-use Rattle.calls.proofs.nine.lane_of.Reads as lane-of-reads
-use Rattle.calls.proofs.vector.nine_at.Reads as nine-at-reads
-use Rattle.calls.proofs.words.at.Reads as at-reads
-use Rattle.calls.proofs.words.low32.Reads as low32-reads
 
 abbrev Inv-loop : tie.InvT-loop
 Inv-loop input base lanes₀ q₀ lanes q = (q ≤ 16) × (length lanes ≡ 16)
@@ -17,87 +13,66 @@ Inv-loop input base lanes₀ q₀ lanes q = (q ≤ 16) × (length lanes ≡ 16)
 abbrev μ-loop : tie.MeasureT-loop
 μ-loop input base lanes₀ q₀ lanes q = 16 - q
 
--- src/vector.rt:130:5
 loop-holds : tie.Need-loop-holds Inv-loop μ-loop
 loop-holds c = search needs
 
--- src/vector.rt:131:60
 mul-nine-at : tie.Need-mul-nine-at Inv-loop μ-loop
 mul-nine-at c = search needs
 
--- src/vector.rt:131:55
 add-nine-at : tie.Need-add-nine-at Inv-loop μ-loop
 add-nine-at c = search needs
 
--- src/vector.rt:131:34
 nine-at-requires : tie.Need-nine-at-requires Inv-loop μ-loop
 nine-at-requires c κs = search needs
 
--- src/vector.rt:131:20
 lane-of-requires : tie.Need-lane-of-requires Inv-loop μ-loop
 lane-of-requires c κs = search needs
 
--- src/vector.rt:131:9
 mul-lanes : tie.Need-mul-lanes Inv-loop μ-loop
 mul-lanes c = search needs
 
--- src/vector.rt:131:9
 array-set-from-lanes : tie.Need-array-set-from-lanes Inv-loop μ-loop
 array-set-from-lanes c = search needs
 
--- src/vector.rt:132:13
 add-q : tie.Need-add-q Inv-loop μ-loop
 add-q c = search needs
 
--- src/vector.rt:130:5
 loop-less : tie.Need-loop-less Inv-loop μ-loop
 loop-less c = search needs
 
--- src/vector.rt:130:5
 loop-again : tie.Need-loop-again Inv-loop μ-loop
 loop-again c = search needs
 
--- src/vector.rt:135:18
 at-requires : tie.Need-at-requires Inv-loop μ-loop
 at-requires c κs = search needs
 
--- src/vector.rt:135:12
 low32-requires : tie.Need-low32-requires Inv-loop μ-loop
 low32-requires c κs = search needs
 
--- src/vector.rt:136:18
 at-requires-2 : tie.Need-at-requires-2 Inv-loop μ-loop
 at-requires-2 c κs = search needs
 
--- src/vector.rt:136:12
 low32-requires-2 : tie.Need-low32-requires-2 Inv-loop μ-loop
 low32-requires-2 c κs = search needs
 
--- src/vector.rt:137:22
 at-requires-3 : tie.Need-at-requires-3 Inv-loop μ-loop
 at-requires-3 c κs = search needs
 
--- src/vector.rt:137:16
 low32-requires-3 : tie.Need-low32-requires-3 Inv-loop μ-loop
 low32-requires-3 c κs = search needs
 
--- src/vector.rt:138:21
 at-requires-4 : tie.Need-at-requires-4 Inv-loop μ-loop
 at-requires-4 c κs = search needs
 
--- src/vector.rt:138:15
 low32-requires-4 : tie.Need-low32-requires-4 Inv-loop μ-loop
 low32-requires-4 c κs = search needs
 
--- src/vector.rt:139:20
 at-requires-5 : tie.Need-at-requires-5 Inv-loop μ-loop
 at-requires-5 c κs = search needs
 
--- src/vector.rt:139:14
 low32-requires-5 : tie.Need-low32-requires-5 Inv-loop μ-loop
 low32-requires-5 c κs = search needs
 
--- src/vector.rt:121:1
 returns : tie.Need-returns Inv-loop μ-loop
 returns c = search needs
 
