@@ -1,0 +1,72 @@
+-- Opening again and again is safe, and ends after n turns. Assumes nothing.
+use borrow.Author.Needs.{needs}
+use Prim.Native.Nat.{_-_, _≤_}
+use Rattle.bench_host.proofs.grid_opens.Statement.{statement}
+use Rattle.bench_host.proofs.grid_opens.Tie as tie
+
+abbrev Inv-loop : tie.InvT-loop
+Inv-loop readings links directory pool p m n sum₀ i₀ sum i =
+    i ≤ n
+
+abbrev μ-loop : tie.MeasureT-loop
+μ-loop readings links directory pool p m n sum₀ i₀ sum i =
+    n - i
+
+loop-holds : tie.Need-loop-holds Inv-loop μ-loop
+loop-holds c = search needs
+
+open-requires : tie.Need-open-requires Inv-loop μ-loop
+open-requires c κs = search needs
+
+cast-k : tie.Need-cast-k Inv-loop μ-loop
+cast-k c = search needs
+
+mul-l : tie.Need-mul-l Inv-loop μ-loop
+mul-l c = search needs
+
+element-copy-out-l : tie.Need-element-copy-out-l Inv-loop μ-loop
+element-copy-out-l c = search needs
+
+wrapping-add-u32-requires : tie.Need-wrapping-add-u32-requires Inv-loop μ-loop
+wrapping-add-u32-requires c κs = search needs
+
+wrapping-add-u32-requires-2 : tie.Need-wrapping-add-u32-requires-2 Inv-loop μ-loop
+wrapping-add-u32-requires-2 c κs = search needs
+
+refused-requires : tie.Need-refused-requires Inv-loop μ-loop
+refused-requires c κs = search needs
+
+wrapping-add-u32-requires-3 : tie.Need-wrapping-add-u32-requires-3 Inv-loop μ-loop
+wrapping-add-u32-requires-3 c κs = search needs
+
+add-i : tie.Need-add-i Inv-loop μ-loop
+add-i c = search needs
+
+loop-less : tie.Need-loop-less Inv-loop μ-loop
+loop-less c = search needs
+
+loop-again : tie.Need-loop-again Inv-loop μ-loop
+loop-again c = search needs
+
+returns : tie.Need-returns Inv-loop μ-loop
+returns c = search needs
+
+pub grid-opens-spec : {M : Type 1} → statement M
+grid-opens-spec =
+    tie.close
+    (tie.spec
+    Inv-loop
+    μ-loop
+    loop-holds
+    open-requires
+    cast-k
+    mul-l
+    element-copy-out-l
+    wrapping-add-u32-requires
+    wrapping-add-u32-requires-2
+    refused-requires
+    wrapping-add-u32-requires-3
+    add-i
+    loop-less
+    loop-again
+    returns)
