@@ -2,7 +2,6 @@
 ghost use Prim.Native.Nat.{_<_, _≤_};
 use grid::Answer;
 use grid::Ask;
-use grid::Opening;
 use lanes::State;
 use numbers::Cell;
 use numbers::Process;
@@ -68,14 +67,8 @@ fn put(words: &mut [u64], i: usize, w: u64) {
     }
 }
 
-fn refused(o: Opening) -> u32 {
-    match o {
-        Opening::Open => 0,
-        Opening::Refused(r) => refusals::number(r),
-    }
-}
-
-// Opens n grids, one after the other, with first = 0, 1, ..; gives a sum over what was opened.
+// Opens n grids, and begins a read in each: the state that open gives is then made in full, and not only what is looked at.
+// Gives a sum over the states.
 #[no_mangle]
 pub extern "C" fn grid_opens(
     readings: &[u32],
@@ -90,13 +83,33 @@ pub extern "C" fn grid_opens(
     let mut i: u32 = 0;
     while i < n {
         let o = grid::open(p, m, i, 3, readings, links, directory, pool);
-        let s = o.state;
-        let is = o.opening;
-        let k = (i % 16) as usize;
-        let l = s.lanes[k];
+        let b = grid::begin(o.state, Process(0), Ask::Read(Cell(0)));
+        let s = b.state;
         sum = std::num::wrapping_add_u32(sum, s.first);
-        sum = std::num::wrapping_add_u32(sum, l.marks);
-        sum = std::num::wrapping_add_u32(sum, refused(is));
+        i = i + 1;
+    }
+    sum
+}
+
+// Opens one grid and begins the same read n times: what of the above is not the opening.
+#[no_mangle]
+pub extern "C" fn grid_begins(
+    readings: &[u32],
+    links: &[u64],
+    directory: &[u32],
+    pool: &[u32],
+    p: u32,
+    m: u32,
+    n: u32,
+) -> u32 {
+    let o = grid::open(p, m, 7, 3, readings, links, directory, pool);
+    let t = o.state;
+    let mut sum: u32 = 0;
+    let mut i: u32 = 0;
+    while i < n {
+        let b = grid::begin(t, Process(0), Ask::Read(Cell(0)));
+        let s = b.state;
+        sum = std::num::wrapping_add_u32(sum, s.first);
         i = i + 1;
     }
     sum

@@ -1,12 +1,12 @@
 -- Opening again and again is safe, and ends after n turns. Assumes nothing.
 use borrow.Author.Needs.{needs}
-use Prim.Native.Nat.{_-_, _≤_}
+use Prim.Native.Nat.{_-_, _<_, _≤_}
 use Rattle.bench_host.proofs.grid_opens.Statement.{statement}
 use Rattle.bench_host.proofs.grid_opens.Tie as tie
 
 abbrev Inv-loop : tie.InvT-loop
 Inv-loop readings links directory pool p m n sum₀ i₀ sum i =
-    i ≤ n
+    (i ≤ n) × (n < 4294967296)
 
 abbrev μ-loop : tie.MeasureT-loop
 μ-loop readings links directory pool p m n sum₀ i₀ sum i =
@@ -18,26 +18,11 @@ loop-holds c = search needs
 open-requires : tie.Need-open-requires Inv-loop μ-loop
 open-requires c κs = search needs
 
-cast-k : tie.Need-cast-k Inv-loop μ-loop
-cast-k c = search needs
-
-mul-l : tie.Need-mul-l Inv-loop μ-loop
-mul-l c = search needs
-
-element-copy-out-l : tie.Need-element-copy-out-l Inv-loop μ-loop
-element-copy-out-l c = search needs
+begin-requires : tie.Need-begin-requires Inv-loop μ-loop
+begin-requires c κs = search needs
 
 wrapping-add-u32-requires : tie.Need-wrapping-add-u32-requires Inv-loop μ-loop
 wrapping-add-u32-requires c κs = search needs
-
-wrapping-add-u32-requires-2 : tie.Need-wrapping-add-u32-requires-2 Inv-loop μ-loop
-wrapping-add-u32-requires-2 c κs = search needs
-
-refused-requires : tie.Need-refused-requires Inv-loop μ-loop
-refused-requires c κs = search needs
-
-wrapping-add-u32-requires-3 : tie.Need-wrapping-add-u32-requires-3 Inv-loop μ-loop
-wrapping-add-u32-requires-3 c κs = search needs
 
 add-i : tie.Need-add-i Inv-loop μ-loop
 add-i c = search needs
@@ -59,13 +44,8 @@ grid-opens-spec =
     μ-loop
     loop-holds
     open-requires
-    cast-k
-    mul-l
-    element-copy-out-l
+    begin-requires
     wrapping-add-u32-requires
-    wrapping-add-u32-requires-2
-    refused-requires
-    wrapping-add-u32-requires-3
     add-i
     loop-less
     loop-again

@@ -1,0 +1,50 @@
+// The grid's machine in C: its state, its memories and its calls, to measure the proved one against.
+#ifndef CGRID_H
+#define CGRID_H
+#include <stddef.h>
+#include <stdint.h>
+
+enum { PROCESSES = 16, CELLS = 65536, SEGMENTS = 17, STEPS = 10 };
+
+enum kind { IDLE, READ, ASKED, WRITE };
+
+enum stage { STORE, LINK, MARKS, DIRECTORY, MARK, FETCH, DRAW, ENTER, TOMBSTONE, NOTE, FORCE, SWAP, TAKE_BACK };
+
+// A process's counts, and its operation under way.
+struct lane {
+    uint32_t marks;
+    uint8_t drawn, steps, kind, stage;
+    uint32_t cell;
+    uint32_t word;  // the reading to store, or where a segment starts
+    uint32_t place;
+    uint8_t stored; // whether the tombstone is
+    uint64_t link;  // the remembered one
+};
+
+struct grid {
+    uint32_t p, m, first, step, top;
+    struct lane lanes[PROCESSES];
+};
+
+struct memories {
+    uint32_t *readings;
+    size_t readings_len;
+    uint64_t *links;
+    size_t links_len;
+    uint32_t *directory;
+    size_t directory_len;
+    uint32_t *pool;
+    size_t pool_len;
+};
+
+enum what { OPENED, BEGUN, GOING, READ_ENDED, WRITTEN, ASKED_ENDED, REFUSED };
+
+struct answer {
+    uint8_t what, steps;
+    uint32_t value; // a reading, 1 or 0, or the refusal's number
+};
+
+struct answer cgrid_open(struct grid *g, uint32_t p, uint32_t m, uint32_t first, uint32_t step, const struct memories *mem);
+struct answer cgrid_begin(struct grid *g, uint32_t q, enum kind kind, uint32_t cell, uint32_t value);
+struct answer cgrid_step(struct grid *g, uint32_t q, const struct memories *mem);
+#endif

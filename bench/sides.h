@@ -1,0 +1,26 @@
+// The sides that are measured: each opens a grid and does the same operations.
+#ifndef SIDES_H
+#define SIDES_H
+#include <stddef.h>
+#include <stdint.h>
+
+// The proved grid, from its static library; see crates/bench_host. A slice is a pointer and a length.
+uint32_t grid_operations(uint32_t *readings, size_t, uint64_t *links, size_t, uint32_t *directory, size_t, uint32_t *pool, size_t,
+                         uint64_t *outcomes, size_t, uint32_t p, uint32_t m, uint32_t q, uint32_t busy, uint32_t before,
+                         uint32_t kind, uint32_t cells);
+uint32_t grid_opens(const uint32_t *readings, size_t, const uint64_t *links, size_t, const uint32_t *directory, size_t,
+                    const uint32_t *pool, size_t, uint32_t p, uint32_t m, uint32_t n);
+uint32_t grid_begins(const uint32_t *readings, size_t, const uint64_t *links, size_t, const uint32_t *directory, size_t,
+                     const uint32_t *pool, size_t, uint32_t p, uint32_t m, uint32_t n);
+
+// The machine in C, with the same arguments.
+uint32_t c_operations(uint32_t *readings, size_t, uint64_t *links, size_t, uint32_t *directory, size_t, uint32_t *pool, size_t,
+                      uint64_t *outcomes, size_t, uint32_t p, uint32_t m, uint32_t q, uint32_t busy, uint32_t before,
+                      uint32_t kind, uint32_t cells);
+size_t c_state_bytes(void);
+
+// A plain array, the readings alone; the other memories are not looked at.
+uint32_t array_operations(uint32_t *readings, size_t, uint64_t *links, size_t, uint32_t *directory, size_t, uint32_t *pool, size_t,
+                          uint64_t *outcomes, size_t, uint32_t p, uint32_t m, uint32_t q, uint32_t busy, uint32_t before,
+                          uint32_t kind, uint32_t cells);
+#endif
