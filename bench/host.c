@@ -88,6 +88,14 @@ static void fill_array(struct lent *x, const struct row *r)
         x->readings[i] = 7 + 3 * i;
 }
 
+static void print_copies(void)
+{
+    for (size_t i = 256; i < LONGEST_COPY; i++)
+        if (copies[i])
+            printf(" %zu:%zu", i, copies[i]);
+    putchar('\n');
+}
+
 // One stretch: n operations on one side. Prints `ops NAME P M BUSY SIDE PART N STEPS NANOSECONDS` and the long copies.
 static uint32_t stretch(const struct row *r, int k, const char *part, size_t n)
 {
@@ -113,10 +121,7 @@ static uint32_t stretch(const struct row *r, int k, const char *part, size_t n)
         steps += x->outcomes[i] >> 32 & 0xff;
     printf("ops %s %u %u %u %s %s %zu %llu %llu", r->name, r->p, r->m, r->busy, sides[k].name, part, n - r->before,
            (unsigned long long)steps, (unsigned long long)best);
-    for (size_t i = 256; i < LONGEST_COPY; i++)
-        if (copies[i])
-            printf(" %zu:%zu", i, copies[i]);
-    putchar('\n');
+    print_copies();
     return top;
 }
 
@@ -155,6 +160,32 @@ static void compare(const struct row *r)
             memcmp(a->directory, b->directory, 4 * SEGMENTS * r->p) || memcmp(a->pool, b->pool, 4 * (4 * r->m + 2 * r->p)))
             differ(r, "a memory");
     }
+}
+
+// Reads whose states are handed on. Prints `handed P M STEPS PART N NANOSECONDS` and the long copies.
+static void handed(uint32_t p, uint32_t m, uint32_t steps, const char *part, size_t n)
+{
+    struct lent *x = &memories[0];
+    struct row r = {.name = "handed", .p = p, .m = m, .old = 255};
+    uint64_t best = UINT64_MAX;
+    for (size_t t = 0; t < turns; t++) {
+        fill(x, &r);
+        memset(copies, 0, sizeof copies);
+        uint64_t from = now();
+        mark();
+        grid_reads(x->readings, m, x->links, m, x->directory, SEGMENTS * p, x->pool, 4 * m + 2 * p, x->outcomes, n, p, m, p - 1,
+                   steps);
+        mark();
+        uint64_t took = now() - from;
+        if (took < best)
+            best = took;
+    }
+    uint64_t expected = (uint64_t)READ_ENDED << 40 | (uint64_t)steps << 32 | (steps == 5 ? 9 : 7);
+    for (size_t i = 0; i < n; i++)
+        if (x->outcomes[i] != expected)
+            differ(&r, "an answer");
+    printf("handed %u %u %u %s %zu %llu", p, m, steps, part, n, (unsigned long long)best);
+    print_copies();
 }
 
 typedef uint32_t opens(const uint32_t *, size_t, const uint64_t *, size_t, const uint32_t *, size_t, const uint32_t *, size_t,
@@ -210,6 +241,10 @@ int main(int argc, char **argv)
         // Old words of 0 name process 0: the check takes more steps. Measured too, and compared.
         compare(&(struct row){"first-write-0", p, CELLS, 0, 0, 1, CELLS, n, 0});
         compare(&(struct row){"asked-0", p, CELLS, 0, 4, 2, 16, n, 0});
+        for (uint32_t steps = 1; steps <= 5; steps += 4) {
+            handed(p, 1024, steps, "setup", 0);
+            handed(p, 1024, steps, "whole", n);
+        }
     }
     // The others at work, and other sizes.
     compare(&(struct row){"read-written", 4, 1024, 3, 4, 0, 4, n, 255});

@@ -13,6 +13,10 @@ uint32_t grid_opens(const uint32_t *readings, size_t, const uint64_t *links, siz
 uint32_t grid_begins(const uint32_t *readings, size_t, const uint64_t *links, size_t, const uint32_t *directory, size_t,
                      const uint32_t *pool, size_t, uint32_t p, uint32_t m, uint32_t n);
 
+// Reads of a written cell in five steps, or of one that is not written in one; each state is handed on.
+uint32_t grid_reads(uint32_t *readings, size_t, uint64_t *links, size_t, uint32_t *directory, size_t, uint32_t *pool, size_t,
+                    uint64_t *outcomes, size_t, uint32_t p, uint32_t m, uint32_t q, uint32_t steps);
+
 // The machine in C, with the same arguments.
 uint32_t c_operations(uint32_t *readings, size_t, uint64_t *links, size_t, uint32_t *directory, size_t, uint32_t *pool, size_t,
                       uint64_t *outcomes, size_t, uint32_t p, uint32_t m, uint32_t q, uint32_t busy, uint32_t before,
