@@ -213,7 +213,13 @@ def hour_summary(state, hour, mem):
 
 def looked_at(state, cell, mem):
     """The reading of a written cell, else f(i)."""
+    written = is_written(state, cell, mem)
+    return word(mem.readings, cell) if written else filled(state, cell)
+
+
+def is_written(state, cell, mem):
+    """The check of a cell, run to its end."""
     written, op = None, Op("asked", "link", cell)
     while written is None:
         written, op = check(state, op, mem)
-    return word(mem.readings, cell) if written else filled(state, cell)
+    return written

@@ -6,7 +6,7 @@ use mathlib.Core.List.{List}
 use native.Mathlib.Omega.{arith}
 use lib.Dec.{eqb}
 use lib.ListN.{length}
-use borrow.Author.Tests.{eq-eqb, ne-eqb, le-leb}
+use borrow.Author.Tests.{eq-eqb, ne-eqb}
 use Rattle.qhs.specs.declared.Record.{Record}
 use Rattle.lanes.specs.declared.State.{State}
 use Rattle.steps.specs.Memory.{Memory}
@@ -15,12 +15,12 @@ use Rattle.grid.specs.declared.Ask.the-variants as Ask
 use Rattle.grid.specs.declared.Stepped.{Stepped}
 use Rattle.grid.specs.Calls.{Outcome, outcome, beginOf, stepOf}
 use Rattle.text.specs.declared.Put.{Put}
-use Rattle.text.specs.declared.Put.the-variants as Put
-use Rattle.text.specs.Text.{decimal, answerLine, splice, Placed, placed, putOf}
+use Rattle.text.specs.Text.{decimal, answerLine, splice, placed, putOf, endOf}
+use Rattle.text.specs.Places.{put-end}
 use Rattle.text.specs.Laws.{decimal-short}
 use Rattle.play.specs.declared.records.Round.{Round}
 use Rattle.play.specs.Play.{cellOf, askOf, turnOf}
-use Rattle.play.specs.Inner.{endOf, Done}
+use Rattle.play.specs.Inner.{Done}
 
 module _ (d : Record) where
   pub ask-read : d .kind ≡ 1 → Ask.Read (cellOf d) ≡ askOf d
@@ -41,14 +41,6 @@ module _ (s : State) (mem : Memory) (d : Record) where
   pub turn-begin : (r : Stepped) (a : Ask) → (d .kind ≡ 0 → ⊥) → a ≡ askOf d → r ≡ beginOf s (d .process) a → outcome r mem ≡ turnOf s mem d
   unfolding turnOf
   turn-begin r a h f e = simp (ne-eqb _ _ h) (rw (e, f))
-
--- what was put where there was room
-pub put-end : (p : Put) (out written bytes : List ℕ) (at : ℕ) → at + length bytes ≤ length out → placed p written ≡ putOf out at bytes
-    → (endOf p ≡ at + length bytes) × (written ≡ splice out at bytes)
-unfolding putOf
-put-end p out written bytes at h e =
-    let is : placed p written ≡ placed (Put.End (at + length bytes)) (splice out at bytes) = e ∙ simp (le-leb _ _ h) in
-    (ap (λ (x : Placed). endOf (x .answer)) is, ap (λ (x : Placed). x .out) is)
 
 pub done : (s : State) (k at end : ℕ) (d : Record) (mem after : Memory) (out written : List ℕ) (t : Stepped) (p : Put) → k < 10000
     → at + 25 ≤ length out → outcome t after ≡ turnOf s mem d → placed p written ≡ putOf out at (answerLine k (t .answer))

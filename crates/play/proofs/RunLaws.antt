@@ -15,12 +15,11 @@ use Rattle.grid.specs.declared.Opened.{Opened}
 use Rattle.grid.specs.Calls.{Outcome, openOf}
 use Rattle.text.specs.declared.Put.{Put}
 use Rattle.text.specs.declared.Put.the-variants as Put
-use Rattle.text.specs.Text.{sizesLine, answerLine, splice, Placed, placed, putOf}
-use Rattle.text.specs.Places.{put-fits, splice-none, splice-length, splice-more, sizes-short}
+use Rattle.text.specs.Text.{sizesLine, answerLine, splice, Placed, placed, putOf, endOf}
+use Rattle.text.specs.Places.{put-end, splice-none, splice-length, splice-more, sizes-short}
 use Rattle.play.specs.declared.records.Round.{Round}
 use Rattle.play.specs.Play.{turnOf, World, world, opened, turned, after, lineAt, linesTo, scheduleText, outputRoom, put}
-use Rattle.play.specs.Inner.{endOf, Done, Ready}
-use Rattle.play.proofs.RecordLaws.{put-end}
+use Rattle.play.specs.Inner.{Done, Ready}
 
 -- where the loop stands after k records
 pub record Going (bytes : List ℕ) (n : ℕ) (w₀ : World) (out₀ : List ℕ) (at₀ : ℕ) (w : World) (out : List ℕ) (at k : ℕ) : Type 0 where

@@ -8,16 +8,9 @@ use Rattle.qhs.specs.declared.Header.{Header}
 use Rattle.qhs.specs.declared.Record.{Record}
 use Rattle.lanes.specs.declared.State.{State}
 use Rattle.steps.specs.Memory.{Memory}
-use Rattle.text.specs.declared.Put.{Put}
-use Rattle.text.specs.declared.Put.the-variants as Put
 use Rattle.text.specs.Text.{answerLine, splice}
 use Rattle.play.specs.declared.records.Round.{Round}
 use Rattle.play.specs.Play.{turnOf, outputRoom}
-
--- Where what was put ends; 0 where nothing was.
-abbrev pub endOf : Put → ℕ
-endOf Put.NoRoom = 0
-endOf (Put.End end) = end
 
 -- What a record's turn and its line come to: the state, the memory, the buffer and where the line ends.
 pub record Done (s : State) (k at : ℕ) (d : Record) (before after : Memory) (out written : List ℕ) (r : Round) : Type 0 where

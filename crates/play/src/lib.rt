@@ -5,7 +5,8 @@ ghost use Rattle.text.specs.Text.{placed};
 ghost use Rattle.play.specs.Play.{filled, scheduleText, put, playOf};
 ghost use Rattle.play.specs.Inner.{Ready};
 
-mod fills;
+pub mod ends;
+pub mod fills;
 mod records;
 
 use qhs::Header;
@@ -31,7 +32,7 @@ fn run(
 {
     let o = grid::open(h.p, h.m, h.first, h.step, readings, links, directory, pool);
     let mut s = o.state;
-    let mut at = records::end_of(text::put_sizes(out, 0, h.p, h.m));
+    let mut at = text::end_of(text::put_sizes(out, 0, h.p, h.m));
     let mut k: usize = 0;
     while k < n {
         let d = qhs::record_at(bytes, k);

@@ -5,28 +5,18 @@ ghost use lib.ListN.{length};
 ghost use Rattle.steps.specs.Memory.{memory};
 ghost use Rattle.grid.specs.Calls.{outcome};
 ghost use Rattle.play.specs.Play.{askOf, turnOf};
-ghost use Rattle.play.specs.Inner.{endOf, Done};
+ghost use Rattle.play.specs.Inner.{Done};
 use grid::Ask;
 use grid::Stepped;
 use lanes::State;
 use numbers::Cell;
 use numbers::Process;
 use qhs::Record;
-use text::Put;
 
 // The grid's state after a record, and where its line ends.
 pub struct Round {
     pub state: State,
     pub at: usize,
-}
-
-pub fn end_of(p: Put) -> usize
-    ensures { λ r. ⌜ r ≡ endOf p ⌝ }
-{
-    match p {
-        Put::NoRoom => 0,
-        Put::End(end) => end,
-    }
 }
 
 fn ask_of(d: Record) -> Ask
@@ -42,7 +32,7 @@ fn ask_of(d: Record) -> Ask
     Ask::Asked(i)
 }
 
-fn turn(
+pub fn turn(
     s: State,
     d: Record,
     readings: &mut [u32],
@@ -77,7 +67,7 @@ pub fn played(
     let t = turn(s, d, readings, links, directory, pool);
     let state = t.state;
     let answer = t.answer;
-    let end = end_of(text::put_answer(out, at, k, answer));
+    let end = text::end_of(text::put_answer(out, at, k, answer));
     Round {
         state: state,
         at: end,

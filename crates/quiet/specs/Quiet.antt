@@ -30,6 +30,17 @@ atRest s = below (s .p) (λ (q : ℕ). idle (laneOf s q .op))
 abbrev pub scanOf : State → Scan
 scanOf s = pick (stateFits s) (pick (atRest s) Scan.AtRest Scan.AtWork) Scan.Unfit
 
+-- The two tests of an order of refusals, which may have others between them.
+abbrev pub unfit : Scan → Bool
+unfit Scan.Unfit = true
+unfit Scan.AtWork = false
+unfit Scan.AtRest = false
+
+abbrev pub atWork : Scan → Bool
+atWork Scan.Unfit = false
+atWork Scan.AtWork = true
+atWork Scan.AtRest = false
+
 -- The marks in force that the next step of a check reads; a process that has no lane has none.
 abbrev pub marksAt : State → ℕ → ℕ
 marksAt s q = pick (ltb q mostProcesses) (laneOf s q .marks) 0

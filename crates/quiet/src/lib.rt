@@ -1,7 +1,7 @@
 // A grid at rest: whether no operation is under way, and what each cell then holds.
 ghost use mathlib.Core.Path.{_≡_};
 ghost use Rattle.steps.specs.Memory.{memory};
-ghost use Rattle.quiet.specs.Quiet.{marksAt, seenIn, onward, lookedAt, readingAs, readingAt, scanOf};
+ghost use Rattle.quiet.specs.Quiet.{marksAt, seenIn, onward, lookedAt, readingAs, readingAt, unfit, atWork, scanOf};
 use grid::begins;
 use lanes::Check;
 use lanes::State;
@@ -37,6 +37,26 @@ pub fn scan_of(s: State) -> Scan
         return Scan::Unfit;
     }
     if calm { Scan::AtRest } else { Scan::AtWork }
+}
+
+pub fn unfit(c: Scan) -> bool
+    ensures { λ r. ⌜ r ≡ unfit c ⌝ }
+{
+    match c {
+        Scan::Unfit => true,
+        Scan::AtWork => false,
+        Scan::AtRest => false,
+    }
+}
+
+pub fn at_work(c: Scan) -> bool
+    ensures { λ r. ⌜ r ≡ atWork c ⌝ }
+{
+    match c {
+        Scan::Unfit => false,
+        Scan::AtWork => true,
+        Scan::AtRest => false,
+    }
 }
 
 // The marks in force of lane q; 0 where there is no such lane.

@@ -1,4 +1,4 @@
--- The number that document 01's table gives each refusal.
+-- The number that the papers give each refusal: 1 to 16 in document 01's table, 17 in 02's W1.
 -- Assumes nothing.
 use Prim.Native.Nat.{ℕ}
 use Rattle.refusals.specs.declared.Refusal.{Refusal}
@@ -21,3 +21,4 @@ numberOf Refusal.TooManyCells = 13
 numberOf Refusal.RaggedRecords = 14
 numberOf Refusal.RecordKind = 15
 numberOf Refusal.FileTooLong = 16
+numberOf Refusal.NoRoom = 17

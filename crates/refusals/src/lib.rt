@@ -35,6 +35,8 @@ pub enum Refusal {
     RecordKind,
     // File: too long.
     FileTooLong,
+    // The text does not fit the lent buffer.
+    NoRoom,
 }
 
 // The table's number.
@@ -58,5 +60,6 @@ pub fn number(r: Refusal) -> u32
         Refusal::RaggedRecords => 14,
         Refusal::RecordKind => 15,
         Refusal::FileTooLong => 16,
+        Refusal::NoRoom => 17,
     }
 }

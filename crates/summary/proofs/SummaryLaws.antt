@@ -10,11 +10,11 @@ use Rattle.steps.specs.declared.Got.{Got}
 use Rattle.steps.specs.Memory.{Memory}
 use Rattle.grid.specs.Calls.{lengthsFit}
 use Rattle.quiet.specs.declared.Scan.{Scan}
-use Rattle.quiet.specs.Quiet.{readingAt, scanOf}
+use Rattle.quiet.specs.Quiet.{unfit, atWork, readingAt, scanOf}
 use Rattle.summary.specs.declared.Hour.{Hour}
 use Rattle.summary.specs.declared.Summary.{Summary}
 use Rattle.summary.specs.declared.Summary.the-variants as Summary
-use Rattle.summary.specs.Summary.{greater, outside, wordOf, hourOf, summaryAs, cellAt, quarters, unfit, atWork, summaryOf}
+use Rattle.summary.specs.Summary.{greater, outside, wordOf, hourOf, summaryAs, cellAt, quarters, summaryOf}
 
 pub second-greater : (a b : ℕ) → a < b → b ≡ greater a b
 second-greater a b h = simp (lt-ltb _ _ h)

@@ -12,9 +12,7 @@ use Rattle.steps.specs.declared.Got.{Got}
 use Rattle.steps.specs.declared.Got.the-variants as Got
 use Rattle.steps.specs.Memory.{Memory}
 use Rattle.grid.specs.Calls.{lengthsFit}
-use Rattle.quiet.specs.declared.Scan.{Scan}
-use Rattle.quiet.specs.declared.Scan.the-variants as Scan
-use Rattle.quiet.specs.Quiet.{readingAt, scanOf}
+use Rattle.quiet.specs.Quiet.{unfit, atWork, readingAt, scanOf}
 use Rattle.summary.specs.declared.Hour.{Hour}
 use Rattle.summary.specs.declared.Summary.{Summary}
 use Rattle.summary.specs.declared.Summary.the-variants as Summary
@@ -49,16 +47,6 @@ abbrev pub quarters : State → ℕ → Memory → Summary
 quarters s i mem =
     summaryAs (readingAt s (cellAt i) mem) (readingAt s (cellAt (i + 1)) mem) (readingAt s (cellAt (i + 2)) mem)
     (readingAt s (cellAt (i + 3)) mem)
-
-abbrev pub unfit : Scan → Bool
-unfit Scan.Unfit = true
-unfit Scan.AtWork = false
-unfit Scan.AtRest = false
-
-abbrev pub atWork : Scan → Bool
-atWork Scan.Unfit = false
-atWork Scan.AtWork = true
-atWork Scan.AtRest = false
 
 -- Hour summary: 9 (state), 8, 10, 5, then 9 (word).
 abbrev pub summaryRefusals : State → ℕ → Memory → List Rule

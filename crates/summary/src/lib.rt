@@ -2,11 +2,10 @@
 ghost use mathlib.Core.Path.{_≡_};
 ghost use Prim.Native.Nat.{_+_, _<_};
 ghost use Rattle.steps.specs.Memory.{memory};
-ghost use Rattle.summary.specs.Summary.{greater, outside, wordOf, hourOf, summaryAs, quarters, unfit, atWork, summaryOf};
+ghost use Rattle.summary.specs.Summary.{greater, outside, wordOf, hourOf, summaryAs, quarters, summaryOf};
 use grid::opens;
 use lanes::State;
 use numbers::Cell;
-use quiet::Scan;
 use refusals::Refusal;
 use steps::Got;
 
@@ -104,37 +103,17 @@ pub fn hour_summary(
     ensures { λ r. ⌜ r ≡ summaryOf s h (memory (now (readings .entry)) (now (links .entry)) (now (directory .entry)) (now (pool .entry))) ⌝ }
 {
     let shown = quiet::scan_of(s);
-    if unfit(shown) {
+    if quiet::unfit(shown) {
         return Summary::Refused(Refusal::OutOfRange);
     }
     if !opens::lengths_fit(s.p, s.m, readings, links, directory, pool) {
         return Summary::Refused(Refusal::OtherLengths);
     }
-    if at_work(shown) {
+    if quiet::at_work(shown) {
         return Summary::Refused(Refusal::AtWork);
     }
     if s.m / 4 <= h {
         return Summary::Refused(Refusal::NoSuchCell);
     }
     quarters(s, 4 * h, readings, links, directory, pool)
-}
-
-fn unfit(c: Scan) -> bool
-    ensures { λ r. ⌜ r ≡ unfit c ⌝ }
-{
-    match c {
-        Scan::Unfit => true,
-        Scan::AtWork => false,
-        Scan::AtRest => false,
-    }
-}
-
-fn at_work(c: Scan) -> bool
-    ensures { λ r. ⌜ r ≡ atWork c ⌝ }
-{
-    match c {
-        Scan::Unfit => false,
-        Scan::AtWork => true,
-        Scan::AtRest => false,
-    }
 }

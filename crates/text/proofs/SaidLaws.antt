@@ -11,7 +11,7 @@ use Rattle.refusals.specs.Numbers.{numberOf}
 use Rattle.refusals.specs.declared.Refusal.{Refusal}
 use Rattle.grid.specs.declared.Answer.{Answer}
 use Rattle.grid.specs.declared.Answer.the-variants as Answer
-use Rattle.text.specs.Text.{word, newline, decimal, bit, two, saying, answerLine, sizesLine, fileRefusedLine, Placed, putOf}
+use Rattle.text.specs.Text.{word, newline, decimal, bit, two, saying, answerLine, sizesLine, fileRefusedLine, refusedLine, Placed, putOf}
 use Rattle.text.specs.Laws.{decimal-short}
 use Rattle.text.specs.declared.line.Line.{Line}
 use Rattle.text.specs.Inner.{room, soFar, cut, Grown, Made, Said, Answered}
@@ -110,20 +110,29 @@ sizes-is o x y z w r p m h k e f g i j n =
       length-append (decimal m) newline,
     ))
 
-pub refused-is : (o x y r : Line) (n : ℕ) (f : Refusal) → n ≡ numberOf f → n < 4294967296 → Made o [] → Grown o x (word "file refused ")
-    → Grown x y (decimal n) → Grown y r newline → Made r (fileRefusedLine f)
-unfolding fileRefusedLine
-refused-is o x y r n f i h e g j k =
+-- a line of a short word and a refusal's number
+numbered : (w : List ℕ) (o x y r : Line) (n : ℕ) (f : Refusal) → length w ≤ 20 → n ≡ numberOf f → n < 4294967296 → Made o [] → Grown o x w
+    → Grown x y (decimal n) → Grown y r newline → Made r (w ++ (decimal (numberOf f) ++ newline))
+numbered w o x y r n f s i h e g j k =
     let low : numberOf f < 4294967296 = rw i at h in
     let j′ : Grown x y (decimal (numberOf f)) = rw i at j in
-    made o r (fileRefusedLine f) e
-    (then o x r (word "file refused ") (decimal (numberOf f) ++ newline) g (then x y r (decimal (numberOf f)) newline j′ k))
+    made o r (w ++ (decimal (numberOf f) ++ newline)) e
+    (then o x r w (decimal (numberOf f) ++ newline) g (then x y r (decimal (numberOf f)) newline j′ k))
     (omega (
       arith,
       decimal-short 9 (numberOf f) (omega arith),
-      length-append (word "file refused ") (decimal (numberOf f) ++ newline),
+      length-append w (decimal (numberOf f) ++ newline),
       length-append (decimal (numberOf f)) newline,
     ))
+
+module _ (o x y r : Line) (n : ℕ) (f : Refusal) (i : n ≡ numberOf f) (h : n < 4294967296) (e : Made o []) where
+  pub file-refused-is : Grown o x (word "file refused ") → Grown x y (decimal n) → Grown y r newline → Made r (fileRefusedLine f)
+  unfolding fileRefusedLine
+  file-refused-is = numbered (word "file refused ") o x y r n f (omega arith) i h e
+
+  pub refused-is : Grown o x (word "refused ") → Grown x y (decimal n) → Grown y r newline → Made r (refusedLine f)
+  unfolding refusedLine
+  refused-is = numbered (word "refused ") o x y r n f (omega arith) i h e
 
 -- the line is what is put
 pub put-made : (l : Line) (bytes out : List ℕ) (at : ℕ) (p : Placed) → Made l bytes → p ≡ putOf out at (soFar l) → p ≡ putOf out at bytes

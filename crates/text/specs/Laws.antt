@@ -33,8 +33,8 @@ pub decimal-step : (n : ℕ) → 10 ≤ n → decimal n ≡ decimal (n / 10) ++ 
 unfolding decimal decimalIn
 decimal-step n h = simp (le-ltb _ _ h, enough n (suc (n / 10)) (n / 10) (omega arith) (omega arith))
 
--- from ten on a number has one digit more than its tenth
-step-length : (n : ℕ) → 10 ≤ n → length (decimal n) ≡ length (decimal (n / 10)) + 1
+-- From ten on a number has one digit more than its tenth.
+pub step-length : (n : ℕ) → 10 ≤ n → length (decimal n) ≡ length (decimal (n / 10)) + 1
 step-length n h = rw (decimal-step n h) (length-append (decimal (n / 10)) (digit (n % 10) ∷ []))
 
 -- A number below 10 ^ (k + 1) has at most k + 1 digits,

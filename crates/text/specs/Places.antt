@@ -10,8 +10,9 @@ use borrow.Author.Tests.{le-leb}
 use Rattle.refusals.specs.Numbers.{numberOf}
 use Rattle.refusals.specs.declared.Refusal.{Refusal}
 use Rattle.refusals.specs.declared.Refusal.the-variants as Refusal
+use Rattle.text.specs.declared.Put.{Put}
 use Rattle.text.specs.declared.Put.the-variants as Put
-use Rattle.text.specs.Text.{word, newline, decimal, sizesLine, fileRefusedLine, splice, Placed, placed, putOf}
+use Rattle.text.specs.Text.{word, newline, decimal, sizesLine, fileRefusedLine, splice, Placed, placed, putOf, endOf}
 use Rattle.text.specs.Laws.{decimal-short}
 
 -- Bytes that fit are put.
@@ -19,6 +20,13 @@ pub put-fits : (out bytes : List ℕ) (at : ℕ) → at + length bytes ≤ lengt
     → putOf out at bytes ≡ placed (Put.End (at + length bytes)) (splice out at bytes)
 unfolding putOf
 put-fits out bytes at h = simp (le-leb _ _ h)
+
+-- What was put where there was room.
+pub put-end : (p : Put) (out written bytes : List ℕ) (at : ℕ) → at + length bytes ≤ length out → placed p written ≡ putOf out at bytes
+    → (endOf p ≡ at + length bytes) × (written ≡ splice out at bytes)
+put-end p out written bytes at h e =
+    let is : placed p written ≡ placed (Put.End (at + length bytes)) (splice out at bytes) = e ∙ put-fits out bytes at h in
+    (ap (λ (x : Placed). endOf (x .answer)) is, ap (λ (x : Placed). x .out) is)
 
 -- Nothing put changes nothing.
 pub splice-none : (out : List ℕ) (at : ℕ) → splice out at [] ≡ out
@@ -85,6 +93,7 @@ two-digits Refusal.TooManyCells = omega arith
 two-digits Refusal.RaggedRecords = omega arith
 two-digits Refusal.RecordKind = omega arith
 two-digits Refusal.FileTooLong = omega arith
+two-digits Refusal.NoRoom = omega arith
 
 pub file-refused-short : (r : Refusal) → length (fileRefusedLine r) ≤ 16
 unfolding fileRefusedLine

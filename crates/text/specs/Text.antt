@@ -63,6 +63,10 @@ sizesLine p m = word "processes " ++ (decimal p ++ (word " cells " ++ (decimal m
 unfoldable pub fileRefusedLine : Refusal → List ℕ
 fileRefusedLine r = word "file refused " ++ (decimal (numberOf r) ++ newline)
 
+-- A grid that gives no text prints only `refused R`.
+unfoldable pub refusedLine : Refusal → List ℕ
+refusedLine r = word "refused " ++ (decimal (numberOf r) ++ newline)
+
 -- A buffer with bytes put in at a place: what stands before and after them stays.
 unfoldable pub splice : List ℕ → ℕ → List ℕ → List ℕ
 splice out at bytes = take at out ++ (bytes ++ drop (at + length bytes) out)
@@ -74,6 +78,11 @@ pub record Placed : Type 0 where
 
 abbrev pub placed : Put → List ℕ → Placed
 placed answer out = record { answer = answer; out = out }
+
+-- Where what was put ends; 0 where nothing was.
+abbrev pub endOf : Put → ℕ
+endOf Put.NoRoom = 0
+endOf (Put.End end) = end
 
 unfoldable pub putOf : List ℕ → ℕ → List ℕ → Placed
 putOf out at bytes =

@@ -2,7 +2,7 @@
 ghost use mathlib.Core.Path.{_≡_};
 ghost use Prim.Native.Nat.{_+_, _≤_};
 ghost use lib.ListN.{length};
-ghost use Rattle.text.specs.Text.{decimal, answerLine, sizesLine, fileRefusedLine, placed, putOf};
+ghost use Rattle.text.specs.Text.{decimal, answerLine, sizesLine, fileRefusedLine, refusedLine, placed, putOf, endOf};
 ghost use Rattle.text.specs.Inner.{room, soFar};
 
 mod line;
@@ -16,6 +16,16 @@ use refusals::Refusal;
 pub enum Put {
     NoRoom,
     End(usize),
+}
+
+// Where what was put ends; 0 where nothing was.
+pub fn end_of(p: Put) -> usize
+    ensures { λ r. ⌜ r ≡ endOf p ⌝ }
+{
+    match p {
+        Put::NoRoom => 0,
+        Put::End(end) => end,
+    }
 }
 
 pub fn put_bytes(out: &mut [u8], at: usize, bytes: &[u8]) -> Put
@@ -74,4 +84,11 @@ pub fn put_file_refused(out: &mut [u8], at: usize, r: Refusal) -> Put
     ensures { λ p. ⌜ placed p (now (out .exit)) ≡ putOf (now (out .entry)) at (fileRefusedLine r) ⌝ }
 {
     put_line(out, at, lines::file_refused(r))
+}
+
+// The only line of an output where the file's grid gives none.
+pub fn put_refused(out: &mut [u8], at: usize, r: Refusal) -> Put
+    ensures { λ p. ⌜ placed p (now (out .exit)) ≡ putOf (now (out .entry)) at (refusedLine r) ⌝ }
+{
+    put_line(out, at, lines::refused(r))
 }

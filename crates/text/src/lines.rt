@@ -1,6 +1,6 @@
 // The lines of the program's output.
 ghost use mathlib.Core.Path.{_≡_};
-ghost use Rattle.text.specs.Text.{bit, two, answerLine, sizesLine, fileRefusedLine};
+ghost use Rattle.text.specs.Text.{bit, two, answerLine, sizesLine, fileRefusedLine, refusedLine};
 ghost use lib.ListN.{length};
 ghost use Rattle.text.specs.Inner.{room, Grown, Made, Said, Answered};
 use super::line;
@@ -47,6 +47,13 @@ pub fn sizes(p: u32, m: u32) -> Line
 {
     let l = line::number(line::word(line::empty(), b"processes "), p as u64);
     line::word(line::number(line::word(l, b" cells "), m as u64), b"\n")
+}
+
+pub fn refused(r: Refusal) -> Line
+    ensures { λ l. ⌜ Made l (refusedLine r) ⌝ }
+{
+    let l = line::word(line::empty(), b"refused ");
+    line::word(line::number(l, refusals::number(r) as u64), b"\n")
 }
 
 pub fn file_refused(r: Refusal) -> Line

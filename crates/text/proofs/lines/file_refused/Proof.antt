@@ -1,6 +1,6 @@
 -- `text::lines::file_refused` meets its contract.
 -- Assumes nothing.
-use Rattle.text.proofs.SaidLaws.{refused-is}
+use Rattle.text.proofs.SaidLaws.{file-refused-is}
 use borrow.Author.Needs.{needs}
 use Rattle.text.proofs.lines.file_refused.Statement.{statement}
 use Rattle.text.proofs.lines.file_refused.Tie as tie
@@ -30,7 +30,7 @@ word-requires-2 : tie.Need-word-requires-2
 word-requires-2 c κs = search needs
 
 returns : tie.Need-returns
-returns c = search (refused-is)
+returns c = search (file-refused-is)
 
 pub file-refused-spec : {M : Type 1} → statement M
 file-refused-spec =

@@ -1,0 +1,71 @@
+// The planners' program without its input and output: from a file's bytes to the bytes that it prints.
+ghost use mathlib.Core.Path.{_≡_};
+ghost use Prim.Native.Nat.{_≤_};
+ghost use Rattle.steps.specs.Memory.{memory};
+ghost use Rattle.text.specs.Text.{placed};
+ghost use Rattle.play.specs.Play.{filled};
+ghost use Rattle.planners.specs.Sheet.{left, sheetOf};
+use planners_text::Wrote;
+use play::ends;
+use play::fills;
+use qhs::Header;
+use qhs::Reading;
+use text::Put;
+
+// Plays n records on a grid in the lent memories, and writes its text.
+fn run(
+    bytes: &[u8],
+    h: Header,
+    n: usize,
+    readings: &mut [u32],
+    links: &mut [u64],
+    directory: &mut [u32],
+    pool: &mut [u32],
+    out: &mut [u8],
+) -> Put
+    ensures { λ r. ⌜ placed r (now (out .exit)) ≡ left (now (bytes .entry)) h n (memory (now (readings .entry)) (now (links .entry)) (now (directory .entry)) (now (pool .entry))) (now (out .entry)) ⌝ }
+{
+    let s = ends::state_after(bytes, h, n, readings, links, directory, pool);
+    let wrote = planners_text::write_text(s, readings, links, directory, pool, out);
+    match wrote {
+        Wrote::Bytes(end) => Put::End(end),
+        Wrote::Refused(r) => text::put_refused(out, 0, r),
+    }
+}
+
+// Plays n records on a grid whose memory holds the fill, and writes its text.
+fn schedule(bytes: &[u8], h: Header, n: usize, out: &mut [u8]) -> Put
+    requires { ⌜ (h .p ≤ 16) × (h .m ≤ 2040) ⌝ }
+    ensures { λ r. ⌜ placed r (now (out .exit)) ≡ left (now (bytes .entry)) h n (filled h) (now (out .entry)) ⌝ }
+{
+    let fill = h.fill;
+    let low = (fill % 4294967296) as u32;
+    let mut readings = fills::readings(low);
+    let mut links = fills::links(fill);
+    let mut directory = fills::directory(low);
+    let mut pool = fills::pool(low);
+    let cells = h.m as usize;
+    let entries = numbers::directory_words(h.p);
+    let words = numbers::pool_words(h.p, h.m);
+    run(
+        bytes,
+        h,
+        n,
+        &mut readings[..cells],
+        &mut links[..cells],
+        &mut directory[..entries],
+        &mut pool[..words],
+        out,
+    )
+}
+
+// Writes what the program prints for a file of these bytes.
+pub fn sheet(bytes: &[u8], out: &mut [u8]) -> Put
+    ensures { λ r. ⌜ placed r (now (out .exit)) ≡ sheetOf (now (bytes .entry)) (now (out .entry)) ⌝ }
+{
+    let is = qhs::read(bytes);
+    match is {
+        Reading::Refused(r) => text::put_file_refused(out, 0, r),
+        Reading::Schedule(h, n) => schedule(bytes, h, n, out),
+    }
+}

@@ -1,0 +1,81 @@
+use Rattle.planners_text.proofs.cells.measure.Statement.{statement}
+use Rattle.planners_text.proofs.cells.measure.Tie as tie
+use Rattle.planners_text.proofs.cells.measure.Reads as reads
+use Rattle.planners_text.proofs.cells.measure.Lts as lts
+use Rattle.planners_text.proofs.cells.inside.Reads as inside-reads
+use Rattle.planners_text.proofs.cells.length_as.Reads as length-as-reads
+use Rattle.quiet.proofs.looked_at.Reads as looked-at-reads
+use Rattle.steps.proofs.look.word.Reads as word-reads
+
+abbrev Inv-loop : tie.InvT-loop
+Inv-loop s readings links directory pool total₀ i₀ total i = ?
+
+abbrev μ-loop : tie.MeasureT-loop
+μ-loop s readings links directory pool total₀ i₀ total i = ?
+
+-- src/cells.rt:66:5
+loop-holds : tie.Need-loop-holds Inv-loop μ-loop
+loop-holds c = ?
+
+-- src/cells.rt:67:13
+looked-at-requires : tie.Need-looked-at-requires Inv-loop μ-loop
+looked-at-requires c κs = ?
+
+-- src/cells.rt:68:13
+inside-requires : tie.Need-inside-requires Inv-loop μ-loop
+inside-requires c κs = ?
+
+-- src/cells.rt:69:13
+returns : tie.Need-returns Inv-loop μ-loop
+returns c = ?
+
+-- src/cells.rt:71:45
+cast-word : tie.Need-cast-word Inv-loop μ-loop
+cast-word c = ?
+
+-- src/cells.rt:71:13
+word-requires : tie.Need-word-requires Inv-loop μ-loop
+word-requires c κs = ?
+
+-- src/cells.rt:72:25
+length-as-requires : tie.Need-length-as-requires Inv-loop μ-loop
+length-as-requires c κs = ?
+
+-- src/cells.rt:72:17
+add-total : tie.Need-add-total Inv-loop μ-loop
+add-total c = ?
+
+-- src/cells.rt:73:13
+add-i : tie.Need-add-i Inv-loop μ-loop
+add-i c = ?
+
+-- src/cells.rt:66:5
+loop-less : tie.Need-loop-less Inv-loop μ-loop
+loop-less c = ?
+
+-- src/cells.rt:66:5
+loop-again : tie.Need-loop-again Inv-loop μ-loop
+loop-again c = ?
+
+-- src/cells.rt:55:1
+returns-2 : tie.Need-returns-2 Inv-loop μ-loop
+returns-2 c = ?
+
+pub measure-spec : {M : Type 1} → statement M
+measure-spec =
+    tie.close
+    (tie.spec
+    Inv-loop
+    μ-loop
+    loop-holds
+    looked-at-requires
+    inside-requires
+    returns
+    cast-word
+    word-requires
+    length-as-requires
+    add-total
+    add-i
+    loop-less
+    loop-again
+    returns-2)

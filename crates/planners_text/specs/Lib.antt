@@ -1,0 +1,2 @@
+pub mod PlannersText
+pub mod Inner

@@ -1,0 +1,87 @@
+-- A grid written out as RFC 4180 text into a lent buffer: document 02, W1.
+-- Assumes nothing.
+use Prim.Native.Nat.{ℕ, zero, suc}
+use mathlib.Core.Bool.{Bool, true, false, not}
+use mathlib.Core.List.{List, [], _∷_, _++_}
+use lib.Dec.{ltb}
+use lib.ListN.{length, getD}
+use Rattle.refusals.specs.Orders.{Rule, _gives_, orders, pick}
+use Rattle.refusals.specs.declared.Refusal.the-variants as Refusal
+use Rattle.lanes.specs.declared.State.{State}
+use Rattle.lanes.specs.Ranges.{below}
+use Rattle.steps.specs.declared.Found.{Found}
+use Rattle.steps.specs.declared.Found.the-variants as Found
+use Rattle.steps.specs.Memory.{Memory}
+use Rattle.grid.specs.Calls.{lengthsFit}
+use Rattle.text.specs.Text.{word, decimal, splice}
+use Rattle.quiet.specs.Quiet.{lookedAt, unfit, atWork, scanOf}
+use Rattle.planners_text.specs.declared.Wrote.{Wrote}
+use Rattle.planners_text.specs.declared.Wrote.the-variants as Wrote
+
+-- CRLF after each line.
+abbrev pub crlf : List ℕ
+crlf = 13 ∷ 10 ∷ []
+
+-- Header `quarter,load`,
+abbrev pub header : List ℕ
+header = word "quarter,load" ++ crlf
+
+-- then one line per written cell: its number and its reading, decimal.
+abbrev pub lineOf : ℕ → ℕ → List ℕ
+lineOf i v = decimal i ++ (word "," ++ (decimal v ++ crlf))
+
+-- Only a written cell has a line. No check is still on after four steps.
+abbrev pub lineAs : ℕ → ℕ → Found → List ℕ
+lineAs i v Found.Outside = []
+lineAs i v (Found.On c) = []
+lineAs i v (Found.NotWritten link) = []
+lineAs i v Found.Written = lineOf i v
+
+-- What the check of cell i comes to, and the reading that the memory holds for it.
+abbrev pub foundAt : State → Memory → ℕ → Found
+foundAt s mem i = lookedAt s i (mem .links) (mem .directory) (mem .pool)
+
+abbrev pub heldAt : Memory → ℕ → ℕ
+heldAt mem i = getD (mem .readings) i 0
+
+-- The lines of the cells below n, in rising order.
+unfoldable pub linesBelow : State → Memory → ℕ → List ℕ
+linesBelow s mem zero = []
+linesBelow s mem (suc n) = linesBelow s mem n ++ lineAs n (heldAt mem n) (foundAt s mem n)
+
+unfoldable pub textOf : State → Memory → List ℕ
+textOf s mem = header ++ linesBelow s mem (s .m)
+
+-- 9 (word): a word of some cell's check lies outside its memory.
+abbrev pub inside : Found → Bool
+inside Found.Outside = false
+inside (Found.On c) = false
+inside (Found.NotWritten link) = true
+inside Found.Written = true
+
+abbrev pub wordsFit : State → Memory → Bool
+wordsFit s mem = below (s .m) (λ (i : ℕ). inside (foundAt s mem i))
+
+-- What writing determines: the answer and the buffer. The state and the memories are only read.
+pub record Page : Type 0 where
+  pub answer : Wrote
+  pub out : List ℕ
+
+abbrev pub page : Wrote → List ℕ → Page
+page answer out = record { answer = answer; out = out }
+
+-- 17 if the text doesn't fit, with nothing written. Bytes after the text stay.
+abbrev pub putText : State → Memory → List ℕ → Page
+putText s mem out =
+    pick (ltb (length out) (length (textOf s mem)))
+    (page (Wrote.Refused Refusal.NoRoom) out)
+    (page (Wrote.Bytes (length (textOf s mem))) (splice out 0 (textOf s mem)))
+
+-- Refusals: 9 (state), 8, 10, 9 (word), then 17.
+abbrev pub textRefusals : State → Memory → List Rule
+textRefusals s mem =
+    unfit (scanOf s) gives Refusal.OutOfRange ∷ not (lengthsFit (s .p) (s .m) mem) gives Refusal.OtherLengths
+    ∷ atWork (scanOf s) gives Refusal.AtWork ∷ not (wordsFit s mem) gives Refusal.OutOfRange ∷ []
+
+unfoldable pub writeOf : State → Memory → List ℕ → Page
+writeOf s mem out = orders (λ r. page (Wrote.Refused r) out) (textRefusals s mem) (putText s mem out)

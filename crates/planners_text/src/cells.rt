@@ -1,0 +1,122 @@
+// The lines of the written cells: how long they are, and the lines themselves.
+ghost use mathlib.Core.Path.{_≡_};
+ghost use Prim.Native.Nat.{_+_, _≤_};
+ghost use lib.ListN.{length};
+ghost use Rattle.steps.specs.Memory.{memory};
+ghost use Rattle.text.specs.Text.{decimal};
+ghost use Rattle.planners_text.specs.PlannersText.{lineOf, lineAs, linesBelow, inside};
+ghost use Rattle.planners_text.specs.Inner.{Long, Laid, measuredOf};
+use lanes::State;
+use numbers::Cell;
+use steps::Found;
+
+// The whole text's length, or that a word of some cell's check lies outside.
+pub enum Measured {
+    Outside,
+    Bytes(usize),
+}
+
+// How many digits a number has.
+fn digits(n: u32) -> usize
+    ensures { λ r. ⌜ Long 10 (decimal n) r ⌝ }
+{
+    let mut count: usize = 1;
+    let mut rest = n;
+    while 10 <= rest {
+        rest = rest / 10;
+        count = count + 1;
+    }
+    count
+}
+
+fn inside(found: Found) -> bool
+    ensures { λ r. ⌜ r ≡ inside found ⌝ }
+{
+    match found {
+        Found::Outside => false,
+        Found::On(_) => false,
+        Found::NotWritten(_) => true,
+        Found::Written => true,
+    }
+}
+
+fn length_as(i: u32, v: u32, found: Found) -> usize
+    ensures { λ r. ⌜ Long 23 (lineAs i v found) r ⌝ }
+{
+    match found {
+        Found::Outside => 0,
+        Found::On(_) => 0,
+        Found::NotWritten(_) => 0,
+        Found::Written => digits(i) + digits(v) + 3,
+    }
+}
+
+// The first pass: every cell is looked at, and the lengths of the lines are summed.
+pub fn measure(
+    s: State,
+    readings: &[u32],
+    links: &[u64],
+    directory: &[u32],
+    pool: &[u32],
+) -> Measured
+    ensures { λ r. ⌜ r ≡ measuredOf s (memory (now (readings .entry)) (now (links .entry)) (now (directory .entry)) (now (pool .entry))) ⌝ }
+{
+    let mut total: usize = 14;
+    let mut i: u32 = 0;
+    while i < s.m {
+        let found = quiet::looked_at(s, Cell(i), links, directory, pool);
+        if !inside(found) {
+            return Measured::Outside;
+        }
+        let v = steps::look::word(readings, i as usize);
+        total = total + length_as(i, v, found);
+        i = i + 1;
+    }
+    Measured::Bytes(total)
+}
+
+fn put_cell(out: &mut [u8], at: usize, i: u32, v: u32) -> usize
+    requires { ⌜ at + length (lineOf i v) ≤ length (now out) ⌝ }
+    ensures { λ r. ⌜ Laid (now (out .entry)) at (lineOf i v) (now (out .exit)) r ⌝ }
+{
+    let a = text::end_of(text::put_decimal(out, at, i as u64));
+    let b = text::end_of(text::put_bytes(out, a, b","));
+    let c = text::end_of(text::put_decimal(out, b, v as u64));
+    text::end_of(text::put_bytes(out, c, b"\r\n"))
+}
+
+fn put_as(out: &mut [u8], at: usize, i: u32, v: u32, found: Found) -> usize
+    requires { ⌜ at + length (lineAs i v found) ≤ length (now out) ⌝ }
+    ensures { λ r. ⌜ Laid (now (out .entry)) at (lineAs i v found) (now (out .exit)) r ⌝ }
+{
+    match found {
+        Found::Outside => at,
+        Found::On(_) => at,
+        Found::NotWritten(_) => at,
+        Found::Written => put_cell(out, at, i, v),
+    }
+}
+
+// The second pass: the lines, from byte `start` on.
+pub fn put_lines(
+    s: State,
+    readings: &[u32],
+    links: &[u64],
+    directory: &[u32],
+    pool: &[u32],
+    start: usize,
+    out: &mut [u8],
+) -> usize
+    requires { ⌜ start + length (linesBelow s (memory (now readings) (now links) (now directory) (now pool)) (s .m)) ≤ length (now out) ⌝ }
+    ensures { λ r. ⌜ Laid (now (out .entry)) start (linesBelow s (memory (now (readings .entry)) (now (links .entry)) (now (directory .entry)) (now (pool .entry))) (s .m)) (now (out .exit)) r ⌝ }
+{
+    let mut at = start;
+    let mut i: u32 = 0;
+    while i < s.m {
+        let found = quiet::looked_at(s, Cell(i), links, directory, pool);
+        let v = steps::look::word(readings, i as usize);
+        at = put_as(out, at, i, v, found);
+        i = i + 1;
+    }
+    at
+}

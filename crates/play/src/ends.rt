@@ -1,0 +1,31 @@
+// The grid that a schedule leaves: its records played one after the other, and no line made.
+ghost use mathlib.Core.Path.{_≡_};
+ghost use Rattle.steps.specs.Memory.{memory};
+ghost use Rattle.play.specs.Play.{world, opened, after};
+use super::records;
+use lanes::State;
+use qhs::Header;
+
+// The state after n records; the lent memories then hold what belongs to it.
+pub fn state_after(
+    bytes: &[u8],
+    h: Header,
+    n: usize,
+    readings: &mut [u32],
+    links: &mut [u64],
+    directory: &mut [u32],
+    pool: &mut [u32],
+) -> State
+    ensures { λ r. ⌜ world r (memory (now (readings .exit)) (now (links .exit)) (now (directory .exit)) (now (pool .exit))) ≡ after (now (bytes .entry)) (opened h (memory (now (readings .entry)) (now (links .entry)) (now (directory .entry)) (now (pool .entry)))) n ⌝ }
+{
+    let o = grid::open(h.p, h.m, h.first, h.step, readings, links, directory, pool);
+    let mut s = o.state;
+    let mut k: usize = 0;
+    while k < n {
+        let d = qhs::record_at(bytes, k);
+        let t = records::turn(s, d, readings, links, directory, pool);
+        s = t.state;
+        k = k + 1;
+    }
+    s
+}
