@@ -50,12 +50,9 @@ line-length i v =
       length-append (decimal v) crlf,
     )
 
-module _ (i v : ℕ) (f : Found) where
-  pub long-none : (g : Found) → f ≡ g → lineAs i v g ≡ [] → Long 23 (lineAs i v f) 0
-  long-none g e h = rw (e, h) (record { is = refl; few = omega arith })
-
-  pub long-written : (a b : ℕ) → f ≡ Found.Written → Long 10 (decimal i) a → Long 10 (decimal v) b → Long 23 (lineAs i v f) (a + b + 3)
-  long-written a b e x y = rw e (record { is = omega (arith, line-length i v, x .is, y .is); few = omega (arith, x .few, y .few) })
+pub long-written : (i v a b : ℕ) (f : Found) → f ≡ Found.Written → Long 10 (decimal i) a → Long 10 (decimal v) b → Long 23 (lineAs i v f) (a + b + 3)
+long-written i v a b f e x y =
+    rw e (record { is = omega (arith, line-length i v, x .is, y .is); few = omega (arith, x .few, y .few) })
 
 -- the cells below i were looked at
 pub record Measuring (s : State) (mem : Memory) (total i : ℕ) : Type 0 where

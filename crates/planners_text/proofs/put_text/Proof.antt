@@ -1,3 +1,4 @@
+use Rattle.planners_text.proofs.WriteLaws.{put-none, lines-room, put-all}
 use borrow.Author.Needs.{needs}
 use Rattle.planners_text.proofs.put_text.Statement.{statement}
 use Rattle.planners_text.proofs.put_text.Tie as tie
@@ -9,7 +10,7 @@ use Rattle.text.proofs.put_bytes.Reads as put-bytes-reads
 
 -- src/lib.rt:34:9
 returns : tie.Need-returns
-returns c = ?
+returns c = search (put-none)
 
 -- src/lib.rt:36:54
 slice-aggregate-put-bytes : tie.Need-slice-aggregate-put-bytes
@@ -25,7 +26,7 @@ end-of-requires c κs = search needs
 
 -- src/lib.rt:37:9
 put-lines-requires : tie.Need-put-lines-requires
-put-lines-requires c κs = ?
+put-lines-requires c κs = search (lines-room)
 
 -- src/lib.rt:21:1
 same-length : tie.Need-same-length
@@ -33,7 +34,7 @@ same-length c = search needs
 
 -- src/lib.rt:21:1
 returns-2 : tie.Need-returns-2
-returns-2 c = ?
+returns-2 c = search (put-all)
 
 pub put-text-spec : {M : Type 1} → statement M
 put-text-spec =

@@ -1,3 +1,4 @@
+use Rattle.planners_text.proofs.SizeLaws.{long-written}
 use borrow.Author.Needs.{needs}
 use Rattle.planners_text.proofs.cells.length_as.Statement.{statement}
 use Rattle.planners_text.proofs.cells.length_as.Tie as tie
@@ -51,7 +52,7 @@ returns-3 c = search needs
 
 -- src/cells.rt:43:1
 returns-4 : tie.Need-returns-4
-returns-4 c = ?
+returns-4 c = search (long-written)
 
 pub length-as-spec : {M : Type 1} → statement M
 length-as-spec =
