@@ -1,4 +1,4 @@
 pub mod RecordLaws
 pub mod RunLaws
-pub mod FillLaws
+pub mod FileLaws
 pub mod EndLaws

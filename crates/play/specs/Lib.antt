@@ -1,3 +1,4 @@
 pub mod Play
+pub mod Fills
 pub mod Inner
 pub mod Listing

@@ -1,6 +1,6 @@
 -- `play::play` meets its contract.
 -- Assumes nothing.
-use Rattle.play.proofs.FillLaws.{play-none, play-refused, play-schedule, play-ready}
+use Rattle.play.proofs.FileLaws.{play-none, play-refused, play-schedule, play-ready}
 use borrow.Author.Needs.{needs}
 use Rattle.play.proofs.play.Statement.{statement}
 use Rattle.play.proofs.play.Tie as tie

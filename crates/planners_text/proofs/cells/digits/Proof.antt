@@ -1,10 +1,9 @@
+-- `planners_text::cells::digits` meets its contract.
+-- Assumes nothing.
 use native.Mathlib.Omega.{arith}
-use borrow.Author.Needs.{needs}
 use Rattle.planners_text.proofs.SizeLaws.{Counted, counted-start, counted-next, counted-end}
 use Rattle.planners_text.proofs.cells.digits.Statement.{statement}
 use Rattle.planners_text.proofs.cells.digits.Tie as tie
-use Rattle.planners_text.proofs.cells.digits.Reads as reads
-use Rattle.planners_text.proofs.cells.digits.Lts as lts
 
 abbrev Inv-loop : tie.InvT-loop
 Inv-loop n count₀ rest₀ count rest = Counted n rest count
@@ -12,23 +11,18 @@ Inv-loop n count₀ rest₀ count rest = Counted n rest count
 abbrev μ-loop : tie.MeasureT-loop
 μ-loop n count₀ rest₀ count rest = rest
 
--- src/cells.rt:25:5
 loop-holds : tie.Need-loop-holds Inv-loop μ-loop
 loop-holds c = search (counted-start)
 
--- src/cells.rt:27:17
 add-count : tie.Need-add-count Inv-loop μ-loop
 add-count c = omega arith
 
--- src/cells.rt:25:5
 loop-less : tie.Need-loop-less Inv-loop μ-loop
 loop-less c = omega arith
 
--- src/cells.rt:25:5
 loop-again : tie.Need-loop-again Inv-loop μ-loop
 loop-again c = search (counted-next)
 
--- src/cells.rt:20:1
 returns : tie.Need-returns Inv-loop μ-loop
 returns c = search (counted-end)
 

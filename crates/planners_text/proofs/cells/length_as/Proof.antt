@@ -1,56 +1,43 @@
+-- `planners_text::cells::length_as` meets its contract.
+-- Assumes nothing.
 use Rattle.planners_text.proofs.SizeLaws.{long-written}
 use borrow.Author.Needs.{needs}
 use Rattle.planners_text.proofs.cells.length_as.Statement.{statement}
 use Rattle.planners_text.proofs.cells.length_as.Tie as tie
-use Rattle.planners_text.proofs.cells.length_as.Reads as reads
-use Rattle.planners_text.proofs.cells.length_as.Lts as lts
-use Rattle.planners_text.proofs.cells.digits.Reads as digits-reads
 
--- src/cells.rt:47:27
 enum-told : tie.Need-enum-told
 enum-told c = search needs
 
--- src/cells.rt:48:25
 enum-told-2 : tie.Need-enum-told-2
 enum-told-2 c = search needs
 
--- src/cells.rt:49:33
 enum-told-3 : tie.Need-enum-told-3
 enum-told-3 c = search needs
 
--- src/cells.rt:50:27
 enum-told-4 : tie.Need-enum-told-4
 enum-told-4 c = search needs
 
--- src/cells.rt:50:27
 digits-requires : tie.Need-digits-requires
 digits-requires c κs = search needs
 
--- src/cells.rt:50:39
 digits-requires-2 : tie.Need-digits-requires-2
 digits-requires-2 c κs = search needs
 
--- src/cells.rt:50:27
 add-result : tie.Need-add-result
 add-result c = search needs
 
--- src/cells.rt:50:27
 add-result-2 : tie.Need-add-result-2
 add-result-2 c = search needs
 
--- src/cells.rt:43:1
 returns : tie.Need-returns
 returns c = search needs
 
--- src/cells.rt:43:1
 returns-2 : tie.Need-returns-2
 returns-2 c = search needs
 
--- src/cells.rt:43:1
 returns-3 : tie.Need-returns-3
 returns-3 c = search needs
 
--- src/cells.rt:43:1
 returns-4 : tie.Need-returns-4
 returns-4 c = search (long-written)
 

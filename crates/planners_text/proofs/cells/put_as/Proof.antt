@@ -1,48 +1,37 @@
+-- `planners_text::cells::put_as` meets its contract.
+-- Assumes nothing.
 use Rattle.planners_text.proofs.LaidLaws.{as-none, as-written, cell-room}
 use borrow.Author.Needs.{needs}
 use Rattle.planners_text.proofs.cells.put_as.Statement.{statement}
 use Rattle.planners_text.proofs.cells.put_as.Tie as tie
-use Rattle.planners_text.proofs.cells.put_as.Reads as reads
-use Rattle.planners_text.proofs.cells.put_as.Lts as lts
-use Rattle.planners_text.proofs.cells.put_cell.Reads as put-cell-reads
 
--- src/cells.rt:93:27
 enum-told : tie.Need-enum-told
 enum-told c = search needs
 
--- src/cells.rt:94:25
 enum-told-2 : tie.Need-enum-told-2
 enum-told-2 c = search needs
 
--- src/cells.rt:95:33
 enum-told-3 : tie.Need-enum-told-3
 enum-told-3 c = search needs
 
--- src/cells.rt:96:36
 enum-told-4 : tie.Need-enum-told-4
 enum-told-4 c = search needs
 
--- src/cells.rt:96:27
 put-cell-requires : tie.Need-put-cell-requires
 put-cell-requires c κs = search (cell-room)
 
--- src/cells.rt:88:1
 returns : tie.Need-returns
 returns c = search (as-none)
 
--- src/cells.rt:88:1
 returns-2 : tie.Need-returns-2
 returns-2 c = search (as-none)
 
--- src/cells.rt:88:1
 returns-3 : tie.Need-returns-3
 returns-3 c = search (as-none)
 
--- src/cells.rt:88:1
 same-length : tie.Need-same-length
 same-length c = search needs
 
--- src/cells.rt:88:1
 returns-4 : tie.Need-returns-4
 returns-4 c = search (as-written)
 

@@ -1,0 +1,47 @@
+-- Each case of the planners' output, as a law of its definition.
+-- Assumes nothing.
+use Prim.Native.Nat.{ℕ, _≤_}
+use mathlib.Core.Path.{_≡_, sym, ap, _∙_}
+use mathlib.Core.List.{List}
+use Rattle.refusals.specs.declared.Refusal.{Refusal}
+use Rattle.qhs.specs.declared.Header.{Header}
+use Rattle.qhs.specs.declared.Reading.{Reading}
+use Rattle.qhs.specs.declared.Reading.the-variants as Reading
+use Rattle.qhs.specs.Qhs.{readOf}
+use Rattle.qhs.specs.Laws.{schedule}
+use Rattle.lanes.specs.declared.State.{State}
+use Rattle.steps.specs.Memory.{Memory}
+use Rattle.text.specs.declared.Put.the-variants as Put
+use Rattle.text.specs.Text.{refusedLine, fileRefusedLine, Placed, placed, putOf}
+use Rattle.play.specs.Play.{World, world, opened, filled, after}
+use Rattle.planners_text.specs.declared.Wrote.{Wrote}
+use Rattle.planners_text.specs.declared.Wrote.the-variants as Wrote
+use Rattle.planners_text.specs.PlannersText.{Page, page, writeOf}
+use Rattle.planners.specs.Sheet.{shown, shownOf, left, sheetAs, sheetOf}
+
+module _ (bytes : List ℕ) (h : Header) (n : ℕ) (mem mem′ : Memory) (s : State) (out out′ : List ℕ) (w : Wrote) (e : world s mem′ ≡ after bytes (opened h mem) n) (f : page w out′ ≡ writeOf s mem′ out) where
+  shown-is : shown (page w out′) ≡ left bytes h n mem out
+  unfolding left
+  shown-is = ap shown f ∙ ap (λ (x : World). shownOf x out) e
+
+  pub left-text : (end : ℕ) → w ≡ Wrote.Bytes end → placed (Put.End end) out′ ≡ left bytes h n mem out
+  left-text end g = ap (λ (x : Wrote). shown (page x out′)) (sym g) ∙ shown-is
+
+  pub left-refused : (r : Refusal) (p : Placed) → w ≡ Wrote.Refused r → p ≡ putOf out′ 0 (refusedLine r) → p ≡ left bytes h n mem out
+  left-refused r p g k = k ∙ ap (λ (x : Wrote). shown (page x out′)) (sym g) ∙ shown-is
+
+pub left-filled : (bytes out : List ℕ) (h : Header) (n : ℕ) (mem : Memory) (r : Placed) → mem ≡ filled h → r ≡ left bytes h n mem out
+    → r ≡ left bytes h n (filled h) out
+left-filled bytes out h n mem r e f = f ∙ ap (λ (x : Memory). left bytes h n x out) e
+
+pub sizes-low : (bytes : List ℕ) (is : Reading) (h : Header) (n : ℕ) → is ≡ readOf bytes → is ≡ Reading.Schedule h n → (h .p ≤ 16) × (h .m ≤ 2040)
+sizes-low bytes is h n read e = let s = schedule bytes is h n read e in (s .p-high, s .m-high)
+
+module _ (bytes out : List ℕ) (is : Reading) (read : is ≡ readOf bytes) (r : Placed) where
+  pub sheet-refused : (f : Refusal) → is ≡ Reading.Refused f → r ≡ putOf out 0 (fileRefusedLine f) → r ≡ sheetOf bytes out
+  unfolding sheetOf
+  sheet-refused f e g = g ∙ ap (λ (x : Reading). sheetAs bytes out x) (sym e ∙ read)
+
+  pub sheet-schedule : (h : Header) (n : ℕ) → is ≡ Reading.Schedule h n → r ≡ left bytes h n (filled h) out → r ≡ sheetOf bytes out
+  unfolding sheetOf
+  sheet-schedule h n e g = g ∙ ap (λ (x : Reading). sheetAs bytes out x) (sym e ∙ read)
