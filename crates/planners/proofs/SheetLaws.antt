@@ -1,6 +1,6 @@
 -- Each case of the planners' output, as a law of its definition.
 -- Assumes nothing.
-use Prim.Native.Nat.{ℕ, _≤_}
+use Prim.Native.Nat.{ℕ}
 use mathlib.Core.Path.{_≡_, sym, ap, _∙_}
 use mathlib.Core.List.{List}
 use Rattle.refusals.specs.declared.Refusal.{Refusal}
@@ -18,6 +18,7 @@ use Rattle.planners_text.specs.declared.Wrote.{Wrote}
 use Rattle.planners_text.specs.declared.Wrote.the-variants as Wrote
 use Rattle.planners_text.specs.PlannersText.{Page, page, writeOf}
 use Rattle.planners.specs.Sheet.{shown, shownOf, left, sheetAs, sheetOf}
+use Rattle.planners.specs.Inner.{Small}
 
 module _ (bytes : List ℕ) (h : Header) (n : ℕ) (mem mem′ : Memory) (s : State) (out out′ : List ℕ) (w : Wrote) (e : world s mem′ ≡ after bytes (opened h mem) n) (f : page w out′ ≡ writeOf s mem′ out) where
   shown-is : shown (page w out′) ≡ left bytes h n mem out
@@ -34,8 +35,8 @@ pub left-filled : (bytes out : List ℕ) (h : Header) (n : ℕ) (mem : Memory) (
     → r ≡ left bytes h n (filled h) out
 left-filled bytes out h n mem r e f = f ∙ ap (λ (x : Memory). left bytes h n x out) e
 
-pub sizes-low : (bytes : List ℕ) (is : Reading) (h : Header) (n : ℕ) → is ≡ readOf bytes → is ≡ Reading.Schedule h n → (h .p ≤ 16) × (h .m ≤ 2040)
-sizes-low bytes is h n read e = let s = schedule bytes is h n read e in (s .p-high, s .m-high)
+pub small : (bytes : List ℕ) (is : Reading) (h : Header) (n : ℕ) → is ≡ readOf bytes → is ≡ Reading.Schedule h n → Small h
+small bytes is h n read e = let s = schedule bytes is h n read e in record { p-high = s .p-high; m-high = s .m-high }
 
 module _ (bytes out : List ℕ) (is : Reading) (read : is ≡ readOf bytes) (r : Placed) where
   pub sheet-refused : (f : Refusal) → is ≡ Reading.Refused f → r ≡ putOf out 0 (fileRefusedLine f) → r ≡ sheetOf bytes out

@@ -1,10 +1,10 @@
 // The planners' program without its input and output: from a file's bytes to the bytes that it prints.
 ghost use mathlib.Core.Path.{_≡_};
-ghost use Prim.Native.Nat.{_≤_};
 ghost use Rattle.steps.specs.Memory.{memory};
 ghost use Rattle.text.specs.Text.{placed};
 ghost use Rattle.play.specs.Play.{filled};
 ghost use Rattle.planners.specs.Sheet.{left, sheetOf};
+ghost use Rattle.planners.specs.Inner.{Small};
 use planners_text::Wrote;
 use play::ends;
 use play::fills;
@@ -35,7 +35,7 @@ fn run(
 
 // Plays n records on a grid whose memory holds the fill, and writes its text.
 fn schedule(bytes: &[u8], h: Header, n: usize, out: &mut [u8]) -> Put
-    requires { ⌜ (h .p ≤ 16) × (h .m ≤ 2040) ⌝ }
+    requires { ⌜ Small h ⌝ }
     ensures { λ r. ⌜ placed r (now (out .exit)) ≡ left (now (bytes .entry)) h n (filled h) (now (out .entry)) ⌝ }
 {
     let fill = h.fill;

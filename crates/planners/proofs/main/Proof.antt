@@ -1,3 +1,6 @@
+use mathlib.Core.Path.{sym}
+use native.Mathlib.Omega.{arith}
+use lib.Seq.{length-take-le}
 use borrow.Author.Needs.{needs}
 use Rattle.planners.proofs.main.Statement.{statement}
 use Rattle.planners.proofs.main.Tie as tie
@@ -44,7 +47,7 @@ array-share-prefix-out c = search needs
 
 -- src/main.rt:23:46
 slice-aggregate-write-all : tie.Need-slice-aggregate-write-all
-slice-aggregate-write-all c = ?
+slice-aggregate-write-all c = sym (length-take-le _ _ (omega arith))
 
 -- src/main.rt:23:17
 write-all-requires : tie.Need-write-all-requires

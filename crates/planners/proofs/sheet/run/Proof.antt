@@ -1,3 +1,4 @@
+use Rattle.planners.proofs.SheetLaws.{left-text, left-refused}
 use borrow.Author.Needs.{needs}
 use Rattle.planners.proofs.sheet.run.Statement.{statement}
 use Rattle.planners.proofs.sheet.run.Tie as tie
@@ -49,7 +50,10 @@ same-length-5 c = search needs
 
 -- src/sheet.rt:16:1
 returns : tie.Need-returns
-returns c = ?
+returns c =
+    let d = c .before .before .before .before .before in
+    let e = d .before .before .before .before .before .before .before .before .before .before .before .before .before .before in
+    left-text _ _ _ _ _ _ _ _ _ (e .state-after .ensures) (d .write-text .ensures) _ (c .before .wrote .given .1)
 
 -- src/sheet.rt:16:1
 same-length-6 : tie.Need-same-length-6
@@ -73,7 +77,10 @@ same-length-10 c = search needs
 
 -- src/sheet.rt:16:1
 returns-2 : tie.Need-returns-2
-returns-2 c = ?
+returns-2 c =
+    let d = c .before .before .before .before .before .before .before .before .before in
+    let e = d .before .before .before .before .before .before .before .before .before .before .before .before .before .before in
+    left-refused _ _ _ _ _ _ _ _ _ (e .state-after .ensures) (d .write-text .ensures) _ _ (c .before .before .before .before .before .wrote2 .given .1) (c .before .before .put-refused .ensures)
 
 pub run-spec : {M : Type 1} → statement M
 run-spec =

@@ -1,3 +1,7 @@
+use native.Mathlib.Omega.{arith}
+use mathlib.Core.Path.{refl}
+use Rattle.play.specs.Fills.{part-length, filled-is}
+use Rattle.planners.proofs.SheetLaws.{left-filled}
 use borrow.Author.Needs.{needs}
 use Rattle.planners.proofs.sheet.schedule.Statement.{statement}
 use Rattle.planners.proofs.sheet.schedule.Tie as tie
@@ -49,7 +53,7 @@ array-borrow-prefix-readings c = search needs
 
 -- src/sheet.rt:54:9
 slice-aggregate-run : tie.Need-slice-aggregate-run
-slice-aggregate-run c = ?
+slice-aggregate-run c = part-length _ 2040 _ _ (c .before .before .before .before .before .before .before .readings .ensures) (omega arith)
 
 -- src/sheet.rt:55:9
 array-borrow-prefix-links : tie.Need-array-borrow-prefix-links
@@ -57,7 +61,7 @@ array-borrow-prefix-links c = search needs
 
 -- src/sheet.rt:55:9
 slice-aggregate-run-2 : tie.Need-slice-aggregate-run-2
-slice-aggregate-run-2 c = ?
+slice-aggregate-run-2 c = part-length _ 2040 _ _ (c .before .before .before .before .before .before .before .links .ensures) (omega arith)
 
 -- src/sheet.rt:56:9
 array-borrow-prefix-directory : tie.Need-array-borrow-prefix-directory
@@ -65,7 +69,7 @@ array-borrow-prefix-directory c = search needs
 
 -- src/sheet.rt:56:9
 slice-aggregate-run-3 : tie.Need-slice-aggregate-run-3
-slice-aggregate-run-3 c = ?
+slice-aggregate-run-3 c = part-length _ 272 _ _ (c .before .before .before .before .before .before .before .directory .ensures) (omega arith)
 
 -- src/sheet.rt:57:9
 array-borrow-prefix-pool : tie.Need-array-borrow-prefix-pool
@@ -73,7 +77,7 @@ array-borrow-prefix-pool c = search needs
 
 -- src/sheet.rt:57:9
 slice-aggregate-run-4 : tie.Need-slice-aggregate-run-4
-slice-aggregate-run-4 c = ?
+slice-aggregate-run-4 c = part-length _ 8192 _ _ (c .before .before .before .before .before .before .before .pool .ensures) (omega arith)
 
 -- src/sheet.rt:50:5
 run-requires : tie.Need-run-requires
@@ -85,7 +89,14 @@ same-length c = search needs
 
 -- src/sheet.rt:37:1
 returns : tie.Need-returns
-returns c = ?
+returns c =
+    let d = c .before .before .before .before .before .before in
+    let e = d .before .before .before .before .before .before in
+    let f = e .before .before .before in
+    let s = f .before .before .before .before .before .before in
+    left-filled _ _ (s .args .h) _ _ _
+    (filled-is (s .args .h) 2040 2040 272 8192 _ _ _ _ _ _ (s .pre .p-high) (s .pre .m-high) refl refl refl refl (f .before .before .before .readings .ensures) (f .before .before .links .ensures) (f .before .directory .ensures) (f .pool .ensures) (e .before .directory-words .ensures) (e .pool-words .ensures))
+    (d .run .ensures)
 
 pub schedule-spec : {M : Type 1} → statement M
 schedule-spec =

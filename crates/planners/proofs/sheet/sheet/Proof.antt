@@ -1,3 +1,4 @@
+use Rattle.planners.proofs.SheetLaws.{small, sheet-refused, sheet-schedule}
 use borrow.Author.Needs.{needs}
 use Rattle.planners.proofs.sheet.sheet.Statement.{statement}
 use Rattle.planners.proofs.sheet.sheet.Tie as tie
@@ -25,7 +26,7 @@ enum-known-is-2 c = search needs
 
 -- src/sheet.rt:69:36
 schedule-requires : tie.Need-schedule-requires
-schedule-requires c κs = ?
+schedule-requires c κs = search (small)
 
 -- src/sheet.rt:63:1
 same-length : tie.Need-same-length
@@ -33,7 +34,7 @@ same-length c = search needs
 
 -- src/sheet.rt:63:1
 returns : tie.Need-returns
-returns c = ?
+returns c = search (sheet-refused)
 
 -- src/sheet.rt:63:1
 same-length-2 : tie.Need-same-length-2
@@ -41,7 +42,7 @@ same-length-2 c = search needs
 
 -- src/sheet.rt:63:1
 returns-2 : tie.Need-returns-2
-returns-2 c = ?
+returns-2 c = search (sheet-schedule)
 
 pub sheet-spec : {M : Type 1} → statement M
 sheet-spec =
