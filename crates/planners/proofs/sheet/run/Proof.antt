@@ -1,81 +1,61 @@
+-- `planners::sheet::run` meets its contract.
+-- Assumes nothing.
 use Rattle.planners.proofs.SheetLaws.{left-text, left-refused}
 use borrow.Author.Needs.{needs}
 use Rattle.planners.proofs.sheet.run.Statement.{statement}
 use Rattle.planners.proofs.sheet.run.Tie as tie
-use Rattle.planners.proofs.sheet.run.Reads as reads
-use Rattle.planners.proofs.sheet.run.Lts as lts
-use Rattle.planners_text.proofs.write_text.Reads as write-text-reads
-use Rattle.play.proofs.ends.state_after.Reads as state-after-reads
-use Rattle.text.proofs.put_refused.Reads as put-refused-reads
 
--- src/sheet.rt:28:9
 state-after-requires : tie.Need-state-after-requires
 state-after-requires c κs = search needs
 
--- src/sheet.rt:29:9
 write-text-requires : tie.Need-write-text-requires
 write-text-requires c κs = search needs
 
--- src/sheet.rt:31:22
 enum-known-wrote : tie.Need-enum-known-wrote
 enum-known-wrote c = search needs
 
--- src/sheet.rt:32:24
 enum-known-wrote-2 : tie.Need-enum-known-wrote-2
 enum-known-wrote-2 c = search needs
 
--- src/sheet.rt:32:30
 put-refused-requires : tie.Need-put-refused-requires
 put-refused-requires c κs = search needs
 
--- src/sheet.rt:16:1
 same-length : tie.Need-same-length
 same-length c = search needs
 
--- src/sheet.rt:16:1
 same-length-2 : tie.Need-same-length-2
 same-length-2 c = search needs
 
--- src/sheet.rt:16:1
 same-length-3 : tie.Need-same-length-3
 same-length-3 c = search needs
 
--- src/sheet.rt:16:1
 same-length-4 : tie.Need-same-length-4
 same-length-4 c = search needs
 
--- src/sheet.rt:16:1
 same-length-5 : tie.Need-same-length-5
 same-length-5 c = search needs
 
--- src/sheet.rt:16:1
 returns : tie.Need-returns
 returns c =
     let d = c .before .before .before .before .before in
     let e = d .before .before .before .before .before .before .before .before .before .before .before .before .before .before in
     left-text _ _ _ _ _ _ _ _ _ (e .state-after .ensures) (d .write-text .ensures) _ (c .before .wrote .given .1)
 
--- src/sheet.rt:16:1
 same-length-6 : tie.Need-same-length-6
 same-length-6 c = search needs
 
--- src/sheet.rt:16:1
 same-length-7 : tie.Need-same-length-7
 same-length-7 c = search needs
 
--- src/sheet.rt:16:1
 same-length-8 : tie.Need-same-length-8
 same-length-8 c = search needs
 
--- src/sheet.rt:16:1
 same-length-9 : tie.Need-same-length-9
 same-length-9 c = search needs
 
--- src/sheet.rt:16:1
 same-length-10 : tie.Need-same-length-10
 same-length-10 c = search needs
 
--- src/sheet.rt:16:1
 returns-2 : tie.Need-returns-2
 returns-2 c =
     let d = c .before .before .before .before .before .before .before .before .before in
