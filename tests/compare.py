@@ -1,10 +1,11 @@
 """Compares our programs with the independent one, byte for byte.
 
     python3 tests/compare.py files --fixed 2000 --fresh 200 [--jobs 2] --ours COMMAND...
+    python3 tests/compare.py planners --fixed 600 --fresh 100 [--jobs 2] --ours COMMAND...
     python3 tests/compare.py calls --fixed 20000 --fresh 2000 [--jobs 2] --ours COMMAND...
 
-COMMAND is all that follows --ours; it may begin with an emulator. `files` starts
-it once a file, `calls` once a batch of vectors. A difference is printed with
+COMMAND is all that follows --ours; it may begin with an emulator. `files` and
+`planners` start it once a file, `calls` once a batch of vectors. A difference is printed with
 the path of the file that shows it, and the exit status is 1. `--seed S`
 plays a fresh seed again.
 """
@@ -23,7 +24,9 @@ sys.path.insert(0, str(pathlib.Path(__file__).resolve().parent / "independent"))
 
 import calls  # noqa: E402
 import files  # noqa: E402
+import planners  # noqa: E402
 import program  # noqa: E402
+import sheets  # noqa: E402
 import vectors  # noqa: E402
 
 BATCH_BYTES = 1_000_000   # vectors sent to one run; a reader may hold 1 MiB
@@ -69,6 +72,12 @@ def file_items(seed, count):
         yield f"{index:06}.qhs", data, program.output(data).encode()
 
 
+def sheet_items(seed, count):
+    for index in range(count):
+        data = sheets.file_bytes(seed, index)
+        yield f"{index:06}.qhs", data, planners.output(data).encode()
+
+
 def call_items(seed, count):
     batch, size, number = [], 0, 0
     for data in vectors.stream(seed, count):
@@ -85,6 +94,12 @@ def batch_item(number, batch):
     data = b"".join(batch)
     expected = "".join(map(calls.printed, calls.vectors_in(data)))
     return f"{number:04}.vectors", data, expected.encode()
+
+
+# What is made of a seed, the fixed seed, how many with it, and what they are called.
+WHAT = {"files": (file_items, files.FIXED_SEED, 2_000, "files"),
+        "planners": (sheet_items, files.FIXED_SEED, 600, "files"),
+        "calls": (call_items, vectors.FIXED_SEED, 20_000, "vectors")}
 
 
 # --- Comparing -------------------------------------------------------------------
@@ -123,7 +138,7 @@ def settle(item, job):
 
 def main():
     parser = argparse.ArgumentParser(description=__doc__.splitlines()[0])
-    parser.add_argument("what", choices=("files", "calls"))
+    parser.add_argument("what", choices=tuple(WHAT))
     parser.add_argument("--fixed", "--count", type=int)
     parser.add_argument("--fresh", type=int)
     parser.add_argument("--seed", help="instead of a fresh seed")
@@ -132,17 +147,15 @@ def main():
     options = parser.parse_args()
     if not options.ours or not shutil.which(options.ours[0]):
         parser.error("--ours needs a command that can be run")
-    is_files = options.what == "files"
-    items, fixed_seed = ((file_items, files.FIXED_SEED) if is_files
-                         else (call_items, vectors.FIXED_SEED))
-    fixed = (2_000 if is_files else 20_000) if options.fixed is None else options.fixed
+    items, fixed_seed, usual, called = WHAT[options.what]
+    fixed = usual if options.fixed is None else options.fixed
     fresh = fixed // 10 if options.fresh is None else options.fresh
     seed = options.seed or str(random.SystemRandom().randrange(2**32))
     start = time.monotonic()
     for name, which, count in (("fixed", fixed_seed, fixed), ("fresh", seed, fresh)):
         print(f"{options.what}: {count} with the {name} seed {which}", flush=True)
         compare(items(which, count), options.ours, options.jobs)
-    print(f"{fixed + fresh} {'files' if is_files else 'vectors'}, 0 differences, "
+    print(f"{fixed + fresh} {called}, 0 differences, "
           f"{time.monotonic() - start:.0f} s")
 
 

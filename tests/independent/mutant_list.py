@@ -2,12 +2,13 @@
 
 from collections import namedtuple
 
-# by: what must tell it apart ("files", "calls" or both).
+# by: what must tell it apart ("files", "planners", "calls", or several).
 # edits: (file, text, other text); each text stands exactly once in its file.
 Mutant = namedtuple("Mutant", "name by edits")
 
 BOTH = ("files", "calls")
 FILES = ("files",)
+PLANNERS = ("planners",)
 CALLS = ("calls",)
 
 NO_TOMBSTONE = Mutant("no tombstone", BOTH, (
@@ -179,4 +180,18 @@ MUTANTS = [
     one("file: one byte too few", FILES, "qhs.py", "LONGEST = 65_536", "LONGEST = 65_535"),
     one("file: links get the low half of the fill", FILES, "program.py",
         "fills = low, header.fill, low, low", "fills = low, low, low, low"),
+    # The planners' text.
+    one("text: a cell not written listed", PLANNERS, "planners.py",
+        "if grid.is_written(state, cell, mem)]", "if grid.is_written(state, cell, mem) or cell == 1]"),
+    one("text: a written 0 left out", PLANNERS, "planners.py",
+        "if grid.is_written(state, cell, mem)]",
+        "if grid.is_written(state, cell, mem) and mem.readings[cell]]"),
+    one("text: cells in falling order", PLANNERS, "planners.py",
+        "for cell in range(state.m) if", "for cell in reversed(range(state.m)) if"),
+    one("text: LF for CRLF", PLANNERS, "planners.py", 'LINE_END = "\\r\\n"', 'LINE_END = "\\n"'),
+    one("text: no header", PLANNERS, "planners.py", "rows = [HEADER] + [", "rows = ["),
+    one("text: given while an operation is under way", PLANNERS, "planners.py",
+        "    if any(lane.op is not None for lane in state.lanes[:state.p]):\n        return 10\n", ""),
+    one("text: a cell's reading by the filling rule", PLANNERS, "planners.py",
+        "(cell, mem.readings[cell])", "(cell, (state.first + state.step * cell) % 2**32)"),
 ]

@@ -1,4 +1,4 @@
-"""Tells every mutant of the independent program apart by the fixed files or vectors, or fails.
+"""Tells every mutant of the independent program apart by the fixed files, the planners' files or the vectors, or fails.
 
     mutants.py [--jobs 2] [NAME...]     only mutants whose name holds NAME
 """
@@ -14,14 +14,17 @@ from itertools import zip_longest
 
 import calls
 import files
+import planners
 import program
+import sheets
 import vectors
 from mutant_list import MUTANTS
 
 HERE = pathlib.Path(__file__).resolve().parent
-SOURCES = ("state.py", "grid.py", "qhs.py", "program.py", "calls.py")
+SOURCES = ("state.py", "grid.py", "qhs.py", "program.py", "planners.py", "calls.py")
 # A mutant is first tried on this many; on all the fixed ones if none tells it apart.
 SOME_FILES, ALL_FILES = 700, 2_000
+SOME_SHEETS, ALL_SHEETS = 200, 600
 SOME_VECTORS, ALL_VECTORS = 6_000, 20_000
 
 sys.dont_write_bytecode = True
@@ -64,6 +67,13 @@ def told_by_file(theirs, data, expected):
         return True
 
 
+def told_by_sheet(theirs, data, expected):
+    try:
+        return theirs.output(data) != expected
+    except Exception:
+        return True
+
+
 def told_by_vector(theirs, data, expected):
     try:
         return theirs.printed(theirs.unpack(data, 0)[0]) != expected
@@ -71,12 +81,17 @@ def told_by_vector(theirs, data, expected):
         return True
 
 
+# How a mutant is tried: the test, the module, and on how many first.
+TRIALS = {"files": (told_by_file, "program", SOME_FILES), "planners": (told_by_sheet, "planners", SOME_SHEETS),
+          "calls": (told_by_vector, "calls", SOME_VECTORS)}
 INPUTS = {}  # filled before the workers start
 
 
 def prepare():
     made = [files.file_bytes(files.FIXED_SEED, index) for index in range(ALL_FILES)]
     INPUTS["files"] = [(data, list(program.lines(data))) for data in made]
+    made = [sheets.file_bytes(files.FIXED_SEED, index) for index in range(ALL_SHEETS)]
+    INPUTS["planners"] = [(data, planners.output(data)) for data in made]
     packed = list(vectors.stream(vectors.FIXED_SEED, ALL_VECTORS))
     INPUTS["calls"] = [(data, calls.printed(calls.unpack(data, 0)[0])) for data in packed]
 
@@ -84,8 +99,7 @@ def prepare():
 def tried(task):
     """How many inputs tell a mutant apart, of how many."""
     mutant, by = task
-    told, module, some = ((told_by_file, "program", SOME_FILES) if by == "files"
-                          else (told_by_vector, "calls", SOME_VECTORS))
+    told, module, some = TRIALS[by]
     theirs = mutated(mutant, module)
     for inputs in (INPUTS[by][:some], INPUTS[by]):
         found = sum(told(theirs, data, expected) for data, expected in inputs)
@@ -103,8 +117,8 @@ def main():
     chosen = [mutant for mutant in MUTANTS
               if not options.names or any(name in mutant.name for name in options.names)]
     prepare()
-    print(f"{ALL_FILES} files and {ALL_VECTORS} vectors made, {time.monotonic() - start:.0f} s")
-    tasks = [(mutant, by) for by in ("files", "calls") for mutant in chosen if by in mutant.by]
+    print(f"{ALL_FILES} files, {ALL_SHEETS} planners' files and {ALL_VECTORS} vectors made, {time.monotonic() - start:.0f} s")
+    tasks = [(mutant, by) for by in TRIALS for mutant in chosen if by in mutant.by]
     survivors = 0
     with multiprocessing.get_context("fork").Pool(options.jobs) as pool:
         for name, by, found, of in pool.imap(tried, tasks):
