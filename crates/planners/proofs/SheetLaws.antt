@@ -16,7 +16,7 @@ use Rattle.text.specs.Text.{refusedLine, fileRefusedLine, Placed, placed, putOf
 use Rattle.play.specs.Play.{World, world, opened, filled, after}
 use Rattle.planners_text.specs.declared.Wrote.{Wrote}
 use Rattle.planners_text.specs.declared.Wrote.the-variants as Wrote
-use Rattle.planners_text.specs.PlannersText.{Page, page, writeOf}
+use Rattle.planners_text.specs.PlannersText.{page, writeOf}
 use Rattle.planners.specs.Sheet.{shown, shownOf, left, sheetAs, sheetOf}
 use Rattle.planners.specs.Inner.{Small}
 

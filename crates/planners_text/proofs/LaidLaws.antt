@@ -2,17 +2,17 @@
 -- Assumes nothing.
 use Prim.Native.Nat.{ℕ, zero, suc, _+_, _-_, _<_, _≤_}
 use mathlib.Core.Path.{_≡_, refl, sym, ap, _∙_}
-use mathlib.Core.List.{List, [], _∷_, _++_}
+use mathlib.Core.Bool.{Bool, true, false}
+use mathlib.Core.List.{List, [], _++_}
 use native.Mathlib.Omega.{arith}
 use lib.ListN.{length, length-append}
 use Rattle.lanes.specs.declared.State.{State}
 use Rattle.steps.specs.declared.Found.{Found}
-use Rattle.steps.specs.declared.Found.the-variants as Found
 use Rattle.steps.specs.Memory.{Memory}
 use Rattle.text.specs.declared.Put.{Put}
-use Rattle.text.specs.Text.{word, decimal, splice, placed, putOf, endOf}
+use Rattle.text.specs.Text.{word, decimal, placed, putOf, endOf}
 use Rattle.text.specs.Places.{put-end, splice-none, splice-length, splice-more}
-use Rattle.planners_text.specs.PlannersText.{crlf, lineOf, lineAs, foundAt, heldAt, linesBelow}
+use Rattle.planners_text.specs.PlannersText.{crlf, lineOf, written, lineAs, foundAt, heldAt, linesBelow}
 use Rattle.planners_text.specs.Inner.{Laid}
 use Rattle.planners_text.proofs.SizeLaws.{lines-more}
 
@@ -54,16 +54,17 @@ laid-line out oa ob oc od at i v a b c d pa pb pc pd room ea fa eb fb ec fc ed f
     (laid-then oa ob od (word ",") (decimal v ++ crlf) a b d (omega (arith, la .ends)) lb
     (laid-then ob oc od (decimal v) crlf b c d (omega (arith, la .ends, lb .ends)) lc ld))
 
-module _ (out : List ℕ) (at i v : ℕ) (f : Found) where
+module _ (out : List ℕ) (at i v : ℕ) (f : Found) (b : Bool) (e : b ≡ written f) where
   -- a cell that has no line
-  pub as-none : (g : Found) → f ≡ g → lineAs i v g ≡ [] → Laid out at (lineAs i v f) out at
-  as-none g e h = rw (e, h) (laid-none out at)
+  pub as-none : b ≡ false → Laid out at (lineAs i v f) out at
+  as-none h = simp (sym e ∙ h) (laid-none out at)
 
-  pub cell-room : f ≡ Found.Written → at + length (lineAs i v f) ≤ length out → at + length (lineOf i v) ≤ length out
-  cell-room e h = rw e at h
+  module _ (h : b ≡ true) where
+    pub cell-room : at + length (lineAs i v f) ≤ length out → at + length (lineOf i v) ≤ length out
+    cell-room k = simp (sym e ∙ h) at k
 
-  pub as-written : (o : List ℕ) (a : ℕ) → f ≡ Found.Written → Laid out at (lineOf i v) o a → Laid out at (lineAs i v f) o a
-  as-written o a e l = rw e l
+    pub as-written : (o : List ℕ) (a : ℕ) → Laid out at (lineOf i v) o a → Laid out at (lineAs i v f) o a
+    as-written o a l = simp (sym e ∙ h) l
 
 -- the cells below i have their lines
 pub record Laying (s : State) (mem : Memory) (start : ℕ) (out₀ out : List ℕ) (at i : ℕ) : Type 0 where

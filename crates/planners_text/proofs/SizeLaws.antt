@@ -1,9 +1,9 @@
 -- The first pass: how long numbers and lines are, and the sum over the cells.
 -- Assumes nothing.
-use Prim.Native.Nat.{ℕ, zero, suc, _+_, _*_, _/_, _<_, _≤_}
+use Prim.Native.Nat.{ℕ, _+_, _*_, _/_, _<_, _≤_}
 use mathlib.Core.Path.{_≡_, refl, sym, ap, _∙_}
-use mathlib.Core.Bool.{Bool, true, false, not, _&&_}
-use mathlib.Core.List.{List, [], _∷_, _++_}
+use mathlib.Core.Bool.{Bool, true, false, not}
+use mathlib.Core.List.{_++_}
 use native.Mathlib.Omega.{arith}
 use native.Mathlib.Numerals.{add-one}
 use lib.ListN.{length, length-append}
@@ -11,13 +11,12 @@ use Rattle.lanes.specs.declared.State.{State}
 use Rattle.lanes.specs.Ranges.{below}
 use Rattle.lanes.specs.Laws.{below-at, below-more}
 use Rattle.steps.specs.declared.Found.{Found}
-use Rattle.steps.specs.declared.Found.the-variants as Found
 use Rattle.steps.specs.Memory.{Memory}
 use Rattle.text.specs.Text.{word, decimal}
 use Rattle.text.specs.Laws.{decimal-low, decimal-short, decimal-long, step-length}
 use Rattle.planners_text.specs.declared.cells.Measured.{Measured}
 use Rattle.planners_text.specs.declared.cells.Measured.the-variants as Measured
-use Rattle.planners_text.specs.PlannersText.{crlf, header, lineOf, lineAs, foundAt, heldAt, linesBelow, textOf, inside, wordsFit}
+use Rattle.planners_text.specs.PlannersText.{crlf, header, lineOf, written, lineAs, foundAt, heldAt, linesBelow, textOf, inside, wordsFit}
 use Rattle.planners_text.specs.Inner.{Long, measuredOf}
 
 -- digits counted so far, all but those of what is left and with its last one
@@ -50,9 +49,10 @@ line-length i v =
       length-append (decimal v) crlf,
     )
 
-pub long-written : (i v a b : ℕ) (f : Found) → f ≡ Found.Written → Long 10 (decimal i) a → Long 10 (decimal v) b → Long 23 (lineAs i v f) (a + b + 3)
-long-written i v a b f e x y =
-    rw e (record { is = omega (arith, line-length i v, x .is, y .is); few = omega (arith, x .few, y .few) })
+pub long-written : (i v x y : ℕ) (f : Found) (b : Bool) → b ≡ written f → b ≡ true → Long 10 (decimal i) x → Long 10 (decimal v) y
+    → Long 23 (lineAs i v f) (x + y + 3)
+long-written i v x y f b e h k l =
+    simp (sym e ∙ h) (record { is = omega (arith, line-length i v, k .is, l .is); few = omega (arith, k .few, l .few) })
 
 -- the cells below i were looked at
 pub record Measuring (s : State) (mem : Memory) (total i : ℕ) : Type 0 where

@@ -3,7 +3,7 @@
 use Prim.Native.Nat.{ℕ, _+_, _<_, _≤_}
 use mathlib.Core.Path.{_≡_, refl, sym, ap, _∙_}
 use mathlib.Core.Bool.{Bool, true, false, not}
-use mathlib.Core.List.{List, [], _∷_, _++_}
+use mathlib.Core.List.{List}
 use native.Mathlib.Omega.{arith}
 use lib.ListN.{length, length-append}
 use borrow.Author.Tests.{lt-ltb, le-ltb}
@@ -15,7 +15,7 @@ use Rattle.grid.specs.Calls.{lengthsFit}
 use Rattle.quiet.specs.declared.Scan.{Scan}
 use Rattle.quiet.specs.Quiet.{unfit, atWork, scanOf}
 use Rattle.text.specs.declared.Put.{Put}
-use Rattle.text.specs.Text.{splice, placed, putOf, endOf}
+use Rattle.text.specs.Text.{placed, putOf, endOf}
 use Rattle.planners_text.specs.declared.Wrote.{Wrote}
 use Rattle.planners_text.specs.declared.Wrote.the-variants as Wrote
 use Rattle.planners_text.specs.declared.cells.Measured.{Measured}

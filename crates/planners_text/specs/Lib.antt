@@ -5,3 +5,4 @@ pub mod Sheet
 pub mod Claims
 pub mod Outcomes
 pub mod ReadBack
+pub mod Samples

@@ -3,7 +3,7 @@
 use Prim.Native.Nat.{ℕ, _+_, _≤_}
 use mathlib.Core.Path.{_≡_, refl, sym, ap, _∙_}
 use mathlib.Core.Bool.{Bool, true, false}
-use mathlib.Core.List.{List, [], _∷_, _++_}
+use mathlib.Core.List.{List, [], _∷_}
 use native.Mathlib.Omega.{arith}
 use lib.Dec.{ltb}
 use lib.ListN.{length, take, drop}
@@ -64,9 +64,10 @@ put-fair s mem out = by (ltb (length out) (length (textOf s mem))) refl
         → Fair s mem out
         (pick b (page (Wrote.Refused Refusal.NoRoom) out) (page (Wrote.Bytes (length (textOf s mem))) (splice out 0 (textOf s mem))))
     by true e = refused-fair s mem out Refusal.NoRoom
-    by false e =
-        (λ n o h. record { length-is = bytes-are n (length (textOf s mem)) (ap (λ (p : Page). p .answer) h); room = ltb-false (length out) (length (textOf s mem)) e; is = ap (λ (p : Page). p .out) h },
-        λ f o h. apart (length (textOf s mem)) f (sym (ap (λ (p : Page). p .answer) h)))
+    by false e = (
+      λ n o h. record { length-is = bytes-are n (length (textOf s mem)) (ap (λ (p : Page). p .answer) h); room = ltb-false (length out) (length (textOf s mem)) e; is = ap (λ (p : Page). p .out) h },
+      λ f o h. apart (length (textOf s mem)) f (sym (ap (λ (p : Page). p .answer) h)),
+    )
 
 fair : (s : State) (mem : Memory) (out : List ℕ) → Fair s mem out (writeOf s mem out)
 unfolding writeOf
@@ -88,7 +89,8 @@ unfolding splice
 bytes-after-stay s mem out n o e =
     let p = fair s mem out .0 n o e in
     let room = p .room in
-    let zero : 0 + length (textOf s mem) ≡ length (textOf s mem) = omega arith in
-    (ap length (p .is) ∙ splice-length out (textOf s mem) 0 (omega arith),
-    rw (p .length-is, p .is)
-    (drop-append-seam (textOf s mem) (drop (0 + length (textOf s mem)) out) ∙ ap (λ (k : ℕ). drop k out) zero))
+    let zero : 0 + length (textOf s mem) ≡ length (textOf s mem) = omega arith in (
+      ap length (p .is) ∙ splice-length out (textOf s mem) 0 (omega arith),
+      rw (p .length-is, p .is)
+          (drop-append-seam (textOf s mem) (drop (0 + length (textOf s mem)) out) ∙ ap (λ (k : ℕ). drop k out) zero),
+    )

@@ -30,12 +30,15 @@ header = word "quarter,load" ++ crlf
 abbrev pub lineOf : ℕ → ℕ → List ℕ
 lineOf i v = decimal i ++ (word "," ++ (decimal v ++ crlf))
 
--- Only a written cell has a line. No check is still on after four steps.
+-- Only a written cell has a line.
+abbrev pub written : Found → Bool
+written Found.Outside = false
+written (Found.On c) = false
+written (Found.NotWritten link) = false
+written Found.Written = true
+
 abbrev pub lineAs : ℕ → ℕ → Found → List ℕ
-lineAs i v Found.Outside = []
-lineAs i v (Found.On c) = []
-lineAs i v (Found.NotWritten link) = []
-lineAs i v Found.Written = lineOf i v
+lineAs i v f = pick (written f) (lineOf i v) []
 
 -- What the check of cell i comes to, and the reading that the memory holds for it.
 abbrev pub foundAt : State → Memory → ℕ → Found
@@ -52,7 +55,7 @@ linesBelow s mem (suc n) = linesBelow s mem n ++ lineAs n (heldAt mem n) (foundA
 unfoldable pub textOf : State → Memory → List ℕ
 textOf s mem = header ++ linesBelow s mem (s .m)
 
--- 9 (word): a word of some cell's check lies outside its memory.
+-- 9 (word): a word of some cell's check lies outside its memory. (No check is still on after its four steps.)
 abbrev pub inside : Found → Bool
 inside Found.Outside = false
 inside (Found.On c) = false

@@ -2,22 +2,22 @@
 -- Assumes nothing.
 use Prim.Native.Nat.{ℕ, zero, suc, _+_, _/_, _%_, _<_, _≤_}
 use mathlib.Core.Path.{_≡_, refl, sym, ap, _∙_}
-use mathlib.Core.Bool.{Bool, true, false, not, _&&_}
+use mathlib.Core.Bool.{Bool, true, false, _&&_}
 use mathlib.Core.List.{List, [], _∷_, _++_, append-assoc, append-nil, map}
-use mathlib.Core.Option.{Option, none, some}
+use mathlib.Core.Option.{Option, some}
 use native.Mathlib.Omega.{arith}
-use lib.Dec.{ltb, leb, eqb}
-use lib.ListN.{length, take}
+use lib.Dec.{ltb}
+use lib.ListN.{length}
 use borrow.Author.Tests.{ltb-true, ltb-false, le-leb, ne-eqb}
+use Rattle.refusals.specs.Orders.{pick}
 use Rattle.lanes.specs.declared.State.{State}
 use Rattle.steps.specs.declared.Found.{Found}
-use Rattle.steps.specs.declared.Found.the-variants as Found
 use Rattle.steps.specs.Memory.{Memory}
 use Rattle.text.specs.Text.{word, digit, decimal}
-use Rattle.text.specs.Laws.{decimal-low, decimal-step, decimal-long, decimal-read, readOnto}
-use Rattle.planners_text.specs.PlannersText.{crlf, header, lineOf, lineAs, foundAt, heldAt, linesBelow, textOf}
+use Rattle.text.specs.Laws.{decimal-low, decimal-step, decimal-long, decimal-read}
+use Rattle.planners_text.specs.PlannersText.{crlf, header, lineOf, written, lineAs, foundAt, heldAt, linesBelow, textOf}
 use Rattle.planners_text.specs.Rfc4180.{textData, Record, Reader, reader, plain, next, run, finish, recordsIn}
-use Rattle.planners_text.specs.Sheet.{Row, row, sheet, all, isDigit, isNumber, rowIn, joined, rowsIn, headed, sheetAs, sheetIn, writtenAs, writtenBelow, heading, writtenCells}
+use Rattle.planners_text.specs.Sheet.{Row, row, all, isDigit, isNumber, rowIn, joined, rowsIn, headed, sheetAs, sheetIn, writtenAs, writtenBelow, heading, writtenCells}
 use Rattle.planners_text.specs.Claims.{ReadsBack}
 use Rattle.planners_text.specs.Outcomes.{text-is}
 
@@ -102,10 +102,11 @@ run-line i v records =
     ∙ ap (λ (r : Reader). run r crlf) (run-plain (decimal v) [] (decimal i ∷ []) records (all-decimal textData digit-is-text v))
 
 run-as : (i v : ℕ) (f : Found) (records : List Record) → run (reader plain [] [] records) (lineAs i v f) ≡ reader plain [] [] (records ++ map fieldsAt (writtenAs i v f))
-run-as i v Found.Outside records = rw (append-nil records)
-run-as i v (Found.On c) records = rw (append-nil records)
-run-as i v (Found.NotWritten link) records = rw (append-nil records)
-run-as i v Found.Written records = run-line i v records
+run-as i v f records = by (written f)
+  where
+    by : (b : Bool) → run (reader plain [] [] records) (pick b (lineOf i v) []) ≡ reader plain [] [] (records ++ map fieldsAt (pick b (row i v ∷ []) []))
+    by true = run-line i v records
+    by false = rw (append-nil records)
 
 map-append : (xs ys : List Row) → map fieldsAt (xs ++ ys) ≡ map fieldsAt xs ++ map fieldsAt ys
 map-append [] ys = refl

@@ -8,11 +8,10 @@ use lib.Dec.{leb}
 use Rattle.refusals.specs.Orders.{pick}
 use Rattle.lanes.specs.declared.State.{State}
 use Rattle.steps.specs.declared.Found.{Found}
-use Rattle.steps.specs.declared.Found.the-variants as Found
 use Rattle.steps.specs.Memory.{Memory}
 use Rattle.text.specs.Text.{word}
 use Rattle.text.specs.Laws.{readOnto}
-use Rattle.planners_text.specs.PlannersText.{foundAt, heldAt}
+use Rattle.planners_text.specs.PlannersText.{written, foundAt, heldAt}
 use Rattle.planners_text.specs.Rfc4180.{Record, recordsIn}
 
 pub record Row : Type 0 where
@@ -72,10 +71,7 @@ sheetIn text = sheetAs (recordsIn text)
 
 -- The written cells below n with their readings, in rising order.
 abbrev pub writtenAs : ℕ → ℕ → Found → List Row
-writtenAs i v Found.Outside = []
-writtenAs i v (Found.On c) = []
-writtenAs i v (Found.NotWritten link) = []
-writtenAs i v Found.Written = row i v ∷ []
+writtenAs i v f = pick (written f) (row i v ∷ []) []
 
 unfoldable pub writtenBelow : State → Memory → ℕ → List Row
 writtenBelow s mem zero = []

@@ -4,7 +4,7 @@ ghost use Prim.Native.Nat.{_+_, _≤_};
 ghost use lib.ListN.{length};
 ghost use Rattle.steps.specs.Memory.{memory};
 ghost use Rattle.text.specs.Text.{decimal};
-ghost use Rattle.planners_text.specs.PlannersText.{lineOf, lineAs, linesBelow, inside};
+ghost use Rattle.planners_text.specs.PlannersText.{lineOf, written, lineAs, linesBelow, inside};
 ghost use Rattle.planners_text.specs.Inner.{Long, Laid, measuredOf};
 use lanes::State;
 use numbers::Cell;
@@ -40,14 +40,24 @@ fn inside(found: Found) -> bool
     }
 }
 
+fn written(found: Found) -> bool
+    ensures { λ r. ⌜ r ≡ written found ⌝ }
+{
+    match found {
+        Found::Outside => false,
+        Found::On(_) => false,
+        Found::NotWritten(_) => false,
+        Found::Written => true,
+    }
+}
+
 fn length_as(i: u32, v: u32, found: Found) -> usize
     ensures { λ r. ⌜ Long 23 (lineAs i v found) r ⌝ }
 {
-    match found {
-        Found::Outside => 0,
-        Found::On(_) => 0,
-        Found::NotWritten(_) => 0,
-        Found::Written => digits(i) + digits(v) + 3,
+    if written(found) {
+        digits(i) + digits(v) + 3
+    } else {
+        0
     }
 }
 
@@ -89,11 +99,10 @@ fn put_as(out: &mut [u8], at: usize, i: u32, v: u32, found: Found) -> usize
     requires { ⌜ at + length (lineAs i v found) ≤ length (now out) ⌝ }
     ensures { λ r. ⌜ Laid (now (out .entry)) at (lineAs i v found) (now (out .exit)) r ⌝ }
 {
-    match found {
-        Found::Outside => at,
-        Found::On(_) => at,
-        Found::NotWritten(_) => at,
-        Found::Written => put_cell(out, at, i, v),
+    if written(found) {
+        put_cell(out, at, i, v)
+    } else {
+        at
     }
 }
 

@@ -1,10 +1,9 @@
 -- A record's turn and its line, as laws of their definitions.
 -- Assumes nothing.
 use Prim.Native.Nat.{ℕ, _+_, _<_, _≤_}
-use mathlib.Core.Path.{_≡_, refl, sym, ap, _∙_}
+use mathlib.Core.Path.{_≡_, ap, _∙_}
 use mathlib.Core.List.{List}
 use native.Mathlib.Omega.{arith}
-use lib.Dec.{eqb}
 use lib.ListN.{length}
 use borrow.Author.Tests.{eq-eqb, ne-eqb}
 use Rattle.qhs.specs.declared.Record.{Record}
@@ -18,7 +17,6 @@ use Rattle.text.specs.declared.Put.{Put}
 use Rattle.text.specs.Text.{decimal, answerLine, splice, placed, putOf, endOf}
 use Rattle.text.specs.Places.{put-end}
 use Rattle.text.specs.Laws.{decimal-short}
-use Rattle.play.specs.declared.records.Round.{Round}
 use Rattle.play.specs.Play.{cellOf, askOf, turnOf}
 use Rattle.play.specs.Inner.{Done}
 

@@ -2,7 +2,7 @@
 -- Assumes nothing.
 use Prim.Native.Nat.{ℕ, _+_, _*_, _<_, _≤_}
 use mathlib.Core.Path.{_≡_, refl, sym, ap, _∙_}
-use mathlib.Core.List.{List, [], _++_}
+use mathlib.Core.List.{List, _++_}
 use native.Mathlib.Omega.{arith}
 use native.Mathlib.Numerals.{add-one}
 use lib.ListN.{length, length-append}
@@ -15,10 +15,10 @@ use Rattle.grid.specs.declared.Opened.{Opened}
 use Rattle.grid.specs.Calls.{Outcome, openOf}
 use Rattle.text.specs.declared.Put.{Put}
 use Rattle.text.specs.declared.Put.the-variants as Put
-use Rattle.text.specs.Text.{sizesLine, answerLine, splice, Placed, placed, putOf, endOf}
+use Rattle.text.specs.Text.{sizesLine, answerLine, splice, placed, putOf, endOf}
 use Rattle.text.specs.Places.{put-end, splice-none, splice-length, splice-more, sizes-short}
 use Rattle.play.specs.declared.records.Round.{Round}
-use Rattle.play.specs.Play.{turnOf, World, world, opened, turned, after, lineAt, linesTo, scheduleText, outputRoom, put}
+use Rattle.play.specs.Play.{turnOf, World, world, opened, turned, after, lineAt, linesTo, scheduleText, put}
 use Rattle.play.specs.Inner.{Done, Ready}
 
 -- where the loop stands after k records

@@ -1,7 +1,7 @@
 -- The hour summary of document 01: for hour h, cells 4h to 4h + 3 are looked at when no operation is under way.
 -- Assumes nothing.
 use Prim.Native.Nat.{ℕ, _+_, _*_, _/_}
-use mathlib.Core.Bool.{Bool, true, false, not, _&&_}
+use mathlib.Core.Bool.{Bool, true, false, not}
 use mathlib.Core.List.{List, [], _∷_}
 use lib.Dec.{ltb}
 use Rattle.numbers.specs.declared.Cell.{Cell}

@@ -5,17 +5,8 @@ use borrow.Author.Needs.{needs}
 use Rattle.planners_text.proofs.cells.length_as.Statement.{statement}
 use Rattle.planners_text.proofs.cells.length_as.Tie as tie
 
-enum-told : tie.Need-enum-told
-enum-told c = search needs
-
-enum-told-2 : tie.Need-enum-told-2
-enum-told-2 c = search needs
-
-enum-told-3 : tie.Need-enum-told-3
-enum-told-3 c = search needs
-
-enum-told-4 : tie.Need-enum-told-4
-enum-told-4 c = search needs
+written-requires : tie.Need-written-requires
+written-requires c κs = search needs
 
 digits-requires : tie.Need-digits-requires
 digits-requires c κs = search needs
@@ -30,30 +21,19 @@ add-result-2 : tie.Need-add-result-2
 add-result-2 c = search needs
 
 returns : tie.Need-returns
-returns c = search needs
+returns c = search (long-written)
 
 returns-2 : tie.Need-returns-2
 returns-2 c = search needs
-
-returns-3 : tie.Need-returns-3
-returns-3 c = search needs
-
-returns-4 : tie.Need-returns-4
-returns-4 c = search (long-written)
 
 pub length-as-spec : {M : Type 1} → statement M
 length-as-spec =
     tie.close
     (tie.spec
-    enum-told
-    enum-told-2
-    enum-told-3
-    enum-told-4
+    written-requires
     digits-requires
     digits-requires-2
     add-result
     add-result-2
     returns
-    returns-2
-    returns-3
-    returns-4)
+    returns-2)
