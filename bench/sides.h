@@ -17,6 +17,18 @@ uint32_t grid_begins(const uint32_t *readings, size_t, const uint64_t *links, si
 uint32_t grid_reads(uint32_t *readings, size_t, uint64_t *links, size_t, uint32_t *directory, size_t, uint32_t *pool, size_t,
                     uint64_t *outcomes, size_t, uint32_t p, uint32_t m, uint32_t q, uint32_t steps);
 
+// The proved grid by its batch call: a list of begins and steps, and an answer for each.
+uint32_t grid_list(uint32_t *readings, size_t, uint64_t *links, size_t, uint32_t *directory, size_t, uint32_t *pool, size_t,
+                   const uint8_t *kinds, size_t, const uint32_t *processes, size_t, const uint32_t *cells, size_t,
+                   const uint32_t *values, size_t, uint64_t *answers, size_t, uint32_t p, uint32_t m);
+
+// The same operations through it: the list made beforehand, the one call, the outcomes read off its answers.
+void batch_list(const uint64_t *outcomes, size_t n, uint32_t q, uint32_t busy, uint32_t before, uint32_t kind, uint32_t cells);
+uint32_t batch_operations(uint32_t *readings, size_t, uint64_t *links, size_t, uint32_t *directory, size_t, uint32_t *pool, size_t,
+                          uint64_t *outcomes, size_t, uint32_t p, uint32_t m, uint32_t q, uint32_t busy, uint32_t before,
+                          uint32_t kind, uint32_t cells);
+void batch_outcomes(uint64_t *outcomes, size_t n);
+
 // The machine in C, with the same arguments.
 uint32_t c_operations(uint32_t *readings, size_t, uint64_t *links, size_t, uint32_t *directory, size_t, uint32_t *pool, size_t,
                       uint64_t *outcomes, size_t, uint32_t p, uint32_t m, uint32_t q, uint32_t busy, uint32_t before,

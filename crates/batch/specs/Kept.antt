@@ -17,7 +17,7 @@ use Rattle.refusals.specs.declared.Refusal.{Refusal}
 use Rattle.refusals.specs.declared.Refusal.the-variants as Refusal
 use Rattle.lanes.specs.declared.Lane.{Lane}
 use Rattle.lanes.specs.declared.State.{State}
-use Rattle.lanes.specs.Ranges.{rest, laneOf, below, laneFits, sizesFit, stateFits}
+use Rattle.lanes.specs.Ranges.{rest, laneOf, idle, below, laneFits, sizesFit, stateFits}
 use Rattle.lanes.specs.Laws.{below-all, and-left, and-right, sized, lane-ok, sizes-of, lane-of}
 use Rattle.steps.specs.declared.Sizes.{Sizes}
 use Rattle.steps.specs.declared.Change.{Change}
@@ -33,7 +33,7 @@ use Rattle.grid.specs.declared.Acted.{Acted}
 use Rattle.grid.specs.declared.Answer.the-variants as Answer
 use Rattle.grid.specs.declared.Verdict.{Verdict}
 use Rattle.grid.specs.declared.Verdict.the-variants as Verdict
-use Rattle.grid.specs.Calls.{settled, refusedAs, begunOf, beginOf, idle, cellOf, opOf, advance, numbersFit, decided, verdictOf, effectOf, outcomeAs, sizesOf, seenBy, lengthsFit, stepOf}
+use Rattle.grid.specs.Calls.{settled, refusedAs, begunOf, beginOf, cellOf, opOf, advance, numbersFit, decided, verdictOf, effectOf, outcomeAs, sizesOf, seenBy, lengthsFit, stepOf}
 
 -- a lane put back
 put-back : (s : State) (q : ℕ) → settled s q (laneOf s q) (s .top) ≡ s

@@ -1,8 +1,11 @@
-// For the benchmark's C program: opens, and operations of one process, through open, begin and step.
+// For the benchmark's C program: opens, operations of one process and reads, through open, begin and step.
 ghost use Prim.Native.Nat.{_<_, _≤_};
+
+pub mod opens;
+pub mod reads;
+
 use grid::Answer;
 use grid::Ask;
-use grid::Stepped;
 use lanes::State;
 use numbers::Cell;
 use numbers::Process;
@@ -15,7 +18,7 @@ fn packed(what: u64, steps: u8, value: u32) -> u64 {
     (what % 16) * 1099511627776 + (steps as u64) * 4294967296 + value as u64
 }
 
-fn word_of(a: Answer) -> u64 {
+pub fn word_of(a: Answer) -> u64 {
     match a {
         Answer::Begun => packed(1, 0, 0),
         Answer::Going => packed(2, 0, 0),
@@ -62,58 +65,10 @@ fn next(i: u32, cells: u32) -> u32 {
     }
 }
 
-fn put(words: &mut [u64], i: usize, w: u64) {
+pub fn put(words: &mut [u64], i: usize, w: u64) {
     if i < words.len() {
         words[i] = w;
     }
-}
-
-// Opens n grids, and begins a read in each: the state that open gives is then made in full, and not only what is looked at.
-// Gives a sum over the states.
-#[no_mangle]
-pub extern "C" fn grid_opens(
-    readings: &[u32],
-    links: &[u64],
-    directory: &[u32],
-    pool: &[u32],
-    p: u32,
-    m: u32,
-    n: u32,
-) -> u32 {
-    let mut sum: u32 = 0;
-    let mut i: u32 = 0;
-    while i < n {
-        let o = grid::open(p, m, i, 3, readings, links, directory, pool);
-        let b = grid::begin(o.state, Process(0), Ask::Read(Cell(0)));
-        let s = b.state;
-        sum = std::num::wrapping_add_u32(sum, s.first);
-        i = i + 1;
-    }
-    sum
-}
-
-// Opens one grid and begins the same read n times: what of the above is not the opening.
-#[no_mangle]
-pub extern "C" fn grid_begins(
-    readings: &[u32],
-    links: &[u64],
-    directory: &[u32],
-    pool: &[u32],
-    p: u32,
-    m: u32,
-    n: u32,
-) -> u32 {
-    let o = grid::open(p, m, 7, 3, readings, links, directory, pool);
-    let t = o.state;
-    let mut sum: u32 = 0;
-    let mut i: u32 = 0;
-    while i < n {
-        let b = grid::begin(t, Process(0), Ask::Read(Cell(0)));
-        let s = b.state;
-        sum = std::num::wrapping_add_u32(sum, s.first);
-        i = i + 1;
-    }
-    sum
 }
 
 // Process q begins a write and takes two steps of it.
@@ -132,7 +87,7 @@ fn begun(
 }
 
 // An open grid in which each process below `busy` is in the middle of a write.
-fn opened(
+pub fn opened(
     p: u32,
     m: u32,
     busy: u32,
@@ -188,116 +143,6 @@ pub extern "C" fn grid_operations(
         put(outcomes, i, word);
         cell = next(cell, cells);
         value = std::num::wrapping_add_u32(value, 1);
-        i = i + 1;
-    }
-    s.top
-}
-
-// Process q writes 9 to cell 0, which takes seven steps where the old bytes are all one bits.
-fn written(
-    s: State,
-    q: u32,
-    readings: &mut [u32],
-    links: &mut [u64],
-    directory: &mut [u32],
-    pool: &mut [u32],
-) -> State {
-    let b = grid::begin(s, Process(q), Ask::Write(Cell(0), 9));
-    let mut t = b.state;
-    let mut k: u32 = 0;
-    while k < 7 {
-        let r = grid::step(t, Process(q), readings, links, directory, pool);
-        t = r.state;
-        k = k + 1;
-    }
-    t
-}
-
-// Begins a read of cell 0 and takes one step of it.
-fn read_one(
-    s: State,
-    q: u32,
-    readings: &mut [u32],
-    links: &mut [u64],
-    directory: &mut [u32],
-    pool: &mut [u32],
-) -> Stepped {
-    let b = grid::begin(s, Process(q), Ask::Read(Cell(0)));
-    grid::step(b.state, Process(q), readings, links, directory, pool)
-}
-
-// The same, and four steps more. Each state is handed on as it is, and stored in no variable.
-fn read_five(
-    s: State,
-    q: u32,
-    readings: &mut [u32],
-    links: &mut [u64],
-    directory: &mut [u32],
-    pool: &mut [u32],
-) -> Stepped {
-    let b = grid::begin(s, Process(q), Ask::Read(Cell(0)));
-    let c = grid::step(b.state, Process(q), readings, links, directory, pool);
-    let d = grid::step(c.state, Process(q), readings, links, directory, pool);
-    let e = grid::step(d.state, Process(q), readings, links, directory, pool);
-    let f = grid::step(e.state, Process(q), readings, links, directory, pool);
-    grid::step(f.state, Process(q), readings, links, directory, pool)
-}
-
-fn read(
-    five: bool,
-    s: State,
-    q: u32,
-    readings: &mut [u32],
-    links: &mut [u64],
-    directory: &mut [u32],
-    pool: &mut [u32],
-) -> Stepped {
-    if five {
-        read_five(s, q, readings, links, directory, pool)
-    } else {
-        read_one(s, q, readings, links, directory, pool)
-    }
-}
-
-fn ready(
-    five: bool,
-    p: u32,
-    m: u32,
-    q: u32,
-    readings: &mut [u32],
-    links: &mut [u64],
-    directory: &mut [u32],
-    pool: &mut [u32],
-) -> State {
-    let s = opened(p, m, 0, readings, links, directory, pool);
-    if five {
-        return written(s, q, readings, links, directory, pool);
-    }
-    s
-}
-
-// Opens a grid and reads cell 0 for each lent word, which gets the outcome: five steps of a written cell, or one of a cell that
-// is not written. What four steps more cost is what a step costs by itself.
-#[no_mangle]
-pub extern "C" fn grid_reads(
-    readings: &mut [u32],
-    links: &mut [u64],
-    directory: &mut [u32],
-    pool: &mut [u32],
-    outcomes: &mut [u64],
-    p: u32,
-    m: u32,
-    q: u32,
-    steps: u32,
-) -> u32 {
-    let five = steps == 5;
-    let mut s = ready(five, p, m, q, readings, links, directory, pool);
-    let mut i: usize = 0;
-    while i < outcomes.len() {
-        let r = read(five, s, q, readings, links, directory, pool);
-        s = r.state;
-        let a = r.answer;
-        put(outcomes, i, word_of(a));
         i = i + 1;
     }
     s.top

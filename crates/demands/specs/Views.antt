@@ -8,7 +8,7 @@ use native.Mathlib.Omega.{arith}
 use borrow.Author.Tests.{lt-ltb, le-ltb, le-leb}
 use lib.Seq.{getD-set-same}
 use Rattle.numbers.specs.Numbers.{poolWords}
-use Rattle.lanes.specs.Ranges.{rest, laneOf, laneFits, stateFits}
+use Rattle.lanes.specs.Ranges.{rest, laneOf, idle, laneFits, stateFits}
 use Rattle.steps.specs.Changes.{topAfter}
 use Rattle.grid.specs.Calls as Grid
 use Rattle.theory.specs.Interface as Theory
@@ -25,7 +25,7 @@ use Rattle.demands.specs.Keep.{good-pass, begunLane, good-begin}
 use Rattle.demands.specs.KeepStep.{steppedLane, steppedState, steppedMemory, own, note-step, good-step}
 use Rattle.demands.specs.Refused.{returned}
 
-works : (a : Ask) (o : Op) → Does a o → Grid.idle o ≡ false
+works : (a : Ask) (o : Op) → Does a o → idle o ≡ false
 works (Ask.Read i) (Op.Read j c) h = refl
 works (Ask.Read i) (Op.Reading j) h = refl
 works (Ask.Asked i) (Op.Asked j c) h = refl
@@ -38,8 +38,8 @@ module _ {s : State} {mem : Memory} {b : Book} (H : Good s mem b) where
   abbrev callStep : ℕ → Call (s .p) (s .m)
   callStep q = step q
 
-  rests : (q : ℕ) → b .doing q ≡ nothing → Grid.idle (laneOf s q .op) ≡ true
-  rests q e = let h : LaneAgrees (laneOf s q) nothing = rw e at (H .agrees q) in ap Grid.idle (h .0)
+  rests : (q : ℕ) → b .doing q ≡ nothing → idle (laneOf s q .op) ≡ true
+  rests q e = let h : LaneAgrees (laneOf s q) nothing = rw e at (H .agrees q) in ap idle (h .0)
 
   -- ---- begin
 

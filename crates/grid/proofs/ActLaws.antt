@@ -14,7 +14,7 @@ use Rattle.lanes.specs.declared.Check.{Check}
 use Rattle.lanes.specs.declared.Stage.{Stage}
 use Rattle.lanes.specs.declared.Op.{Op}
 use Rattle.lanes.specs.declared.Lane.{Lane}
-use Rattle.lanes.specs.Ranges.{laneFits, sizesFit}
+use Rattle.lanes.specs.Ranges.{idle, laneFits, sizesFit}
 use Rattle.lanes.specs.Laws.{lane-ok}
 use Rattle.steps.specs.declared.Sizes.{Sizes}
 use Rattle.steps.specs.declared.Change.{Change}
@@ -30,7 +30,7 @@ use Rattle.grid.specs.declared.Acted.{Acted}
 use Rattle.grid.specs.declared.Answer.{Answer}
 use Rattle.grid.specs.declared.Verdict.{Verdict}
 use Rattle.grid.specs.declared.Verdict.the-variants as Verdict
-use Rattle.grid.specs.Calls.{lengthsFit, idle, namedIn, namedAt, named, advance, answerOf, refusedAs, numbersFit, decided, verdictOf, effect, actOf}
+use Rattle.grid.specs.Calls.{lengthsFit, namedIn, namedAt, named, advance, answerOf, refusedAs, numbersFit, decided, verdictOf, effect, actOf}
 use Rattle.grid.specs.Inner.{Judged, movedTo}
 use Rattle.grid.proofs.BeginLaws.{not-false}
 

@@ -11,10 +11,11 @@ use Rattle.refusals.specs.Orders.{pick}
 use Rattle.refusals.specs.declared.Refusal.the-variants as Refusal
 use Rattle.lanes.specs.declared.Op.{Op}
 use Rattle.lanes.specs.declared.Lane.{Lane}
+use Rattle.lanes.specs.Ranges.{idle}
 use Rattle.grid.specs.declared.Ask.{Ask}
 use Rattle.grid.specs.declared.Acted.{Acted}
 use Rattle.grid.specs.declared.Answer.the-variants as Answer
-use Rattle.grid.specs.Calls.{idle, cellOf, opOf, refusedAs, begunOf}
+use Rattle.grid.specs.Calls.{cellOf, opOf, refusedAs, begunOf}
 use Rattle.grid.specs.Inner.{laneAt}
 
 pub not-true : (b : Bool) → not b ≡ true → b ≡ false

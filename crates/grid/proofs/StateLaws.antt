@@ -22,12 +22,17 @@ use Rattle.lanes.specs.declared.State.{State}
 use Rattle.lanes.specs.Ranges.{rest, laneOf, checkFits, stageFits, opFits, sizesFit, stateFits}
 use Rattle.lanes.specs.Laws.{and-right, sized, lane-ok, sizes-of, lane-of}
 use Rattle.lanes.specs.Scan.{Passed, passed-all}
+use Rattle.steps.specs.declared.Next.{Next}
+use Rattle.steps.specs.declared.Next.the-variants as Next
 use Rattle.steps.specs.Memory.{Memory}
 use Rattle.grid.specs.declared.Ask.{Ask}
+use Rattle.grid.specs.declared.Answer.{Answer}
 use Rattle.grid.specs.declared.Acted.{Acted}
+use Rattle.grid.specs.declared.Verdict.{Verdict}
+use Rattle.grid.specs.declared.Verdict.the-variants as Verdict
 use Rattle.grid.specs.declared.Stepped.{Stepped}
-use Rattle.grid.specs.Calls.{lengthsFit, begunOf, beginOf, verdictOf, settled, sizesOf, namedIn, namedAt, named, seenBy, Effect, effect, actOf, Outcome, outcome, stepOf, steppedAs, outcomeAs}
-use Rattle.grid.specs.Inner.{laneAt, Judged}
+use Rattle.grid.specs.Calls.{lengthsFit, refusedAs, answerOf, begunOf, beginOf, verdictOf, settled, sizesOf, namedIn, namedAt, named, seenBy, Effect, effect, effectOf, actOf, Outcome, outcome, stepOf, steppedAs, outcomeAs}
+use Rattle.grid.specs.Inner.{laneAt, changes, Judged}
 
 -- past the last lane in use, the state has been looked at
 pub loop-end : (t : State) (b : Bool) (end i : ℕ) (fits : Bool) → b ≡ sizesFit (t .p) (t .m) (t .top) → end ≡ pick b (t .p) 0 → i ≤ end → end ≤ i
@@ -61,6 +66,13 @@ named-of p m steps (Op.Read i c) h e = named-in p m c h (and-right (ltb (i .0) m
 named-of p m steps (Op.Reading i) h e = omega arith
 named-of p m steps (Op.Asked i c) h e = named-in p m c h (and-right (ltb (i .0) m) (checkFits p m c) e)
 named-of p m steps (Op.Write i t) h e = named-at p m t h (and-right (ltb (i .0) m) (stageFits p m t) e)
+
+-- a step that is no refusal answers none
+moved-changes : (n : ℕ) (next : Next) → changes (answerOf n next) ≡ true
+moved-changes n (Next.Going o) = refl
+moved-changes n (Next.Read v) = refl
+moved-changes n Next.Written = refl
+moved-changes n (Next.Asked b) = refl
 
 -- the lane at k, which is process q's where q is one of the grid's
 module _ (s : State) (q k : ℕ) (at : k ≡ laneAt q) (l : Lane) (is : l ≡ laneOf s k) where
@@ -119,8 +131,25 @@ module _ (s : State) (q k : ℕ) (at : k ≡ laneAt q) (l : Lane) (is : l ≡ la
     step-by mem true h false g false i = simp (h, i) (rw (same-lanes, own-lanes))
     step-by mem false h y g z i = simp h (rw (same-lanes, own-lanes))
 
+    abbrev pub unchanged : Answer → Stepped
+    unchanged a = record { state = s; answer = a }
+
+    -- a refusal leaves the lane and the top as they were
+    kept : (v : Verdict) (mem mem′ : Memory) (b : Acted) → effect b mem′ ≡ effectOf l (s .top) mem v → changes (b .answer) ≡ false
+        → unchanged (b .answer) ≡ steppedAs s k b
+    kept (Verdict.Refused r) mem mem′ b e h = let f : b ≡ refusedAs l (s .top) r = ap (λ (x : Effect). x .acted) e in rw (f, same-lanes)
+    kept (Verdict.Moved ch nx) mem mem′ b e h =
+        let f : b .answer ≡ answerOf (l .steps) nx = ap (λ (x : Effect). x .acted .answer) e in
+        let g : true ≡ false = sym (moved-changes (l .steps) nx) ∙ sym (ap changes f) ∙ h in
+        cc
+
     pub step-is : (fits : Bool) (mem mem′ : Memory) (b : Acted) → fits ≡ stateFits s
         → effect b mem′ ≡ actOf fits (sizesOf s) q l (other .marks) mem → outcome (steppedAs s k b) mem′ ≡ stepOf s q mem
     step-is fits mem mem′ b e f =
         ap (outcomeAs s k) f
         ∙ rw e (step-by mem (stateFits s) refl (ltb q (s .p)) refl (lengthsFit (s .p) (s .m) mem) refl)
+
+    pub step-kept : (fits : Bool) (mem mem′ : Memory) (b : Acted) → fits ≡ stateFits s
+        → effect b mem′ ≡ actOf fits (sizesOf s) q l (other .marks) mem → changes (b .answer) ≡ false → outcome (unchanged (b .answer)) mem′ ≡ stepOf s q mem
+    step-kept fits mem mem′ b e f h =
+        ap (λ (x : Stepped). outcome x mem′) (kept (verdictOf fits (sizesOf s) q l (other .marks) mem) mem mem′ b f h) ∙ step-is fits mem mem′ b e f

@@ -18,7 +18,7 @@ use Rattle.lanes.specs.declared.Op.{Op}
 use Rattle.lanes.specs.declared.Op.the-variants as Op
 use Rattle.lanes.specs.declared.Lane.{Lane}
 use Rattle.lanes.specs.declared.State.{State}
-use Rattle.lanes.specs.Ranges.{rest, laneOf, laneFits, stateFits}
+use Rattle.lanes.specs.Ranges.{rest, laneOf, idle, laneFits, stateFits}
 use Rattle.steps.specs.declared.Sizes.{Sizes}
 use Rattle.steps.specs.declared.Change.{Change}
 use Rattle.steps.specs.declared.Next.{Next}
@@ -66,14 +66,6 @@ openedAs p m first step (Opening.Refused r) = record { state = fresh 0 0 0 0; op
 
 abbrev pub openOf : ℕ → ℕ → ℕ → ℕ → Memory → Opened
 openOf p m first step mem = openedAs p m first step (openingOf p m mem)
-
--- No operation under way.
-abbrev pub idle : Op → Bool
-idle Op.Idle = true
-idle (Op.Read i c) = false
-idle (Op.Reading i) = false
-idle (Op.Asked i c) = false
-idle (Op.Write i t) = false
 
 -- A state with another lane of process q, and another top.
 abbrev pub settled : State → ℕ → Lane → ℕ → State

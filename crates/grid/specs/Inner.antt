@@ -2,7 +2,7 @@
 -- Assumes nothing.
 use Prim.Native.Nat.{ℕ, _<_}
 use mathlib.Core.Path.{_≡_}
-use mathlib.Core.Bool.{Bool, true}
+use mathlib.Core.Bool.{Bool, true, false}
 use lib.Dec.{ltb}
 use Rattle.numbers.specs.Numbers.{mostProcesses}
 use Rattle.refusals.specs.Orders.{pick}
@@ -12,12 +12,23 @@ use Rattle.steps.specs.declared.Sizes.{Sizes}
 use Rattle.steps.specs.declared.Change.{Change}
 use Rattle.steps.specs.declared.Next.{Next}
 use Rattle.steps.specs.Changes.{laneAfter, topAfter}
+use Rattle.grid.specs.declared.Answer.{Answer}
+use Rattle.grid.specs.declared.Answer.the-variants as Answer
 use Rattle.grid.specs.declared.Acted.{Acted}
 use Rattle.grid.specs.Calls.{advance, answerOf}
 
 -- A process's lane; 0 where it has none.
 abbrev pub laneAt : ℕ → ℕ
 laneAt q = pick (ltb q mostProcesses) q 0
+
+-- Only a refusal changes nothing.
+abbrev pub changes : Answer → Bool
+changes Answer.Begun = true
+changes Answer.Going = true
+changes (Answer.Read v n) = true
+changes (Answer.Written n) = true
+changes (Answer.Asked b n) = true
+changes (Answer.Refused r) = false
 
 -- What the judge of a step is to know where the state fits.
 pub record Judged (fits : Bool) (z : Sizes) (q : ℕ) (l : Lane) : Type 0 where

@@ -7,7 +7,7 @@ ghost use Rattle.lanes.specs.Ranges.{laneFits};
 ghost use Rattle.steps.specs.Memory.{memory};
 ghost use Rattle.steps.specs.Changes.{laneAfter, topAfter};
 ghost use Rattle.grid.specs.Calls.{namedIn, namedAt, named, advance, answerOf, numbersFit, decided, verdictOf, effect, actOf};
-ghost use Rattle.grid.specs.Inner.{Judged, movedTo};
+ghost use Rattle.grid.specs.Inner.{changes, Judged, movedTo};
 use super::Acted;
 use super::Answer;
 use super::Verdict;
@@ -191,7 +191,7 @@ fn verdict_of(
         return Verdict::Refused(Refusal::NoSuchProcess);
     }
     let o = l.op;
-    if begins::idle(o) {
+    if lanes::idle(o) {
         return Verdict::Refused(Refusal::NothingUnderWay);
     }
     let t = steps::turn_of(z, q, l, seen, readings, links, directory, pool);
@@ -206,6 +206,20 @@ fn moved(l: Lane, top: u32, change: Change, next: Next) -> Acted
         lane: advance(lane_after(l, change), next),
         top: top_after(top, change),
         answer: answer_of(l.steps, next),
+    }
+}
+
+// Only a refusal changes nothing.
+pub fn changes(a: Answer) -> bool
+    ensures { λ r. ⌜ r ≡ changes a ⌝ }
+{
+    match a {
+        Answer::Begun => true,
+        Answer::Going => true,
+        Answer::Read(_, _) => true,
+        Answer::Written(_) => true,
+        Answer::Asked(_, _) => true,
+        Answer::Refused(_) => false,
     }
 }
 

@@ -4,7 +4,7 @@ ghost use mathlib.Core.Bool.{true, _&&_};
 ghost use Prim.Native.Nat.{_<_, _≤_};
 ghost use Rattle.numbers.specs.Numbers.{mostProcesses};
 ghost use Rattle.refusals.specs.Orders.{pick};
-ghost use Rattle.grid.specs.Calls.{idle, cellOf, opOf, begunOf};
+ghost use Rattle.grid.specs.Calls.{cellOf, opOf, begunOf};
 ghost use Rattle.grid.specs.Inner.{laneAt};
 use super::Acted;
 use super::Answer;
@@ -37,18 +37,6 @@ pub fn both(a: bool, b: bool) -> bool
     ensures { λ r. ⌜ r ≡ (a && b) ⌝ }
 {
     if a { b } else { false }
-}
-
-pub fn idle(o: Op) -> bool
-    ensures { λ r. ⌜ r ≡ idle o ⌝ }
-{
-    match o {
-        Op::Idle => true,
-        Op::Read(_, _) => false,
-        Op::Reading(_) => false,
-        Op::Asked(_, _) => false,
-        Op::Write(_, _) => false,
-    }
 }
 
 fn cell_of(a: Ask) -> Cell
@@ -91,7 +79,7 @@ pub fn begun(fits: bool, p: u32, m: u32, top: u32, q: Process, l: Lane, a: Ask) 
         return refused(l, top, Refusal::NoSuchProcess);
     }
     let o = l.op;
-    if !idle(o) {
+    if !lanes::idle(o) {
         return refused(l, top, Refusal::UnderWay);
     }
     if m <= cell_of(a).0 {

@@ -111,7 +111,8 @@ pub fn begin(s: State, q: Process, a: Ask) -> Stepped
     }
 }
 
-// One step of process q. The state is copied once, into `t`, and changed there; no other function takes it.
+// One step of process q. The state is copied once, into `t`, and changed there; no other function takes it. A refusal leaves
+// the lane where it is, which spares holding it until then.
 pub fn step(
     s: State,
     q: Process,
@@ -143,10 +144,12 @@ pub fn step(
         i = i + 1;
     }
     let b = acts::act(fits, z, q, l, other.marks, readings, links, directory, pool);
-    let lane = b.lane;
     let answer = b.answer;
-    t.top = b.top;
-    t.lanes[k] = lane;
+    if acts::changes(answer) {
+        let lane = b.lane;
+        t.top = b.top;
+        t.lanes[k] = lane;
+    }
     Stepped {
         state: t,
         answer: answer,

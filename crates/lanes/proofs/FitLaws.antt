@@ -1,10 +1,10 @@
 -- Each case of a range test, as a law of its definition: what the tests on the way say decides the case.
 -- Assumes nothing.
-use mathlib.Core.Path.{_≡_, sym, _∙_}
-use mathlib.Core.Bool.{Bool, true, false}
+use mathlib.Core.Path.{_≡_, refl, sym, _∙_}
+use mathlib.Core.Bool.{Bool, true, false, _&&_}
 use Prim.Native.Nat.{ℕ, _<_, _≤_}
-use borrow.Author.Tests.{lt-ltb, le-ltb, le-leb, lt-leb}
-use lib.Dec.{leb, ltb}
+use borrow.Author.Tests.{lt-ltb, le-ltb, le-leb, lt-leb, eqb-true}
+use lib.Dec.{leb, ltb, eqb}
 use Rattle.numbers.specs.Numbers.{mostProcesses, mostCells, mostSegments, mostSteps, mostMarks, poolWords, processOf, placeOf}
 use Rattle.numbers.specs.declared.Place.{Place}
 use Rattle.numbers.specs.declared.Cell.{Cell}
@@ -14,7 +14,7 @@ use Rattle.lanes.specs.declared.Stage.{Stage}
 use Rattle.lanes.specs.declared.Op.{Op}
 use Rattle.lanes.specs.declared.Op.the-variants as Op
 use Rattle.lanes.specs.declared.Lane.{Lane}
-use Rattle.lanes.specs.Ranges.{placeFits, linkFits, checkFits, stageFits, opFits, laneFits, sizesFit}
+use Rattle.lanes.specs.Ranges.{idle, placeFits, linkFits, checkFits, stageFits, opFits, laneFits, sizesFit}
 
 module _ (p m w r : ℕ) (e : r ≡ processOf w) where
   pub link-below : (n : Place) (b : Bool) → r < p → n .0 ≡ placeOf w → b ≡ placeFits m n → b ≡ linkFits p m w
@@ -70,6 +70,25 @@ module _ (p m top : ℕ) where
     pub sizes-top : (r : ℕ) → 1 ≤ m → m ≤ mostCells → r ≡ poolWords p m → leb top r ≡ sizesFit p m top
     sizes-top r h k e = simp (le-leb _ _ p-low, le-leb _ _ p-high, le-leb _ _ h, le-leb _ _ k) (rw e)
 
+-- With no operation under way no step was taken: that is all of the range of its steps.
+and-false : (b : Bool) → false ≡ (b && false)
+and-false true = refl
+and-false false = refl
+
+no-steps : (steps : ℕ) → eqb steps 0 ≡ (leb steps mostSteps && eqb steps 0)
+no-steps steps = by (eqb steps 0) refl
+  where
+    by : (b : Bool) → eqb steps 0 ≡ b → b ≡ (leb steps mostSteps && b)
+    by true e = rw (eqb-true steps 0 e)
+    by false e = and-false (leb steps mostSteps)
+
+idle-op : (p m steps : ℕ) (o : Op) → idle o ≡ true → (leb steps mostSteps && opFits p m steps o) ≡ eqb steps 0
+idle-op p m steps Op.Idle e = sym (no-steps steps)
+idle-op p m steps (Op.Read i c) e = let z : false ≡ true = e in cc
+idle-op p m steps (Op.Reading i) e = let z : false ≡ true = e in cc
+idle-op p m steps (Op.Asked i c) e = let z : false ≡ true = e in cc
+idle-op p m steps (Op.Write i t) e = let z : false ≡ true = e in cc
+
 module _ (p m : ℕ) (l : Lane) (most : ℕ) (e : most ≡ mostMarks m) where
   pub many-marks : most < l .marks → false ≡ laneFits p m l
   many-marks h = let k : mostMarks m < l .marks = rw e at h in simp (lt-leb _ _ k)
@@ -83,6 +102,9 @@ module _ (p m : ℕ) (l : Lane) (most : ℕ) (e : most ≡ mostMarks m) where
 
     pub many-steps : l .drawn ≤ mostSegments → mostSteps < l .steps → false ≡ laneFits p m l
     many-steps k j = simp (le-leb _ _ marks-low, le-leb _ _ k, lt-leb _ _ j)
+
+    pub lane-rests : (r : Bool) → l .drawn ≤ mostSegments → r ≡ idle (l .op) → r ≡ true → eqb (l .steps) 0 ≡ laneFits p m l
+    lane-rests r k e f = simp (le-leb _ _ marks-low, le-leb _ _ k) (sym (idle-op p m (l .steps) (l .op) (sym e ∙ f)))
 
     pub lane-op : (b : Bool) → l .drawn ≤ mostSegments → l .steps ≤ mostSteps → b ≡ opFits p m (l .steps) (l .op) → b ≡ laneFits p m l
     lane-op b k j f = simp (le-leb _ _ marks-low, le-leb _ _ k, le-leb _ _ j) f

@@ -23,6 +23,14 @@ rest = record { marks = 0; drawn = 0; steps = 0; op = Op.Idle }
 abbrev pub laneOf : State → ℕ → Lane
 laneOf s q = getD (s .lanes) q rest
 
+-- No operation under way.
+abbrev pub idle : Op → Bool
+idle Op.Idle = true
+idle (Op.Read i c) = false
+idle (Op.Reading i) = false
+idle (Op.Asked i c) = false
+idle (Op.Write i t) = false
+
 -- An operation's place: at most 2m + 1.
 abbrev pub placeFits : ℕ → Place → Bool
 placeFits m n = leb (n .0) (mostMarks m)

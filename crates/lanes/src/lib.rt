@@ -1,6 +1,6 @@
 // The state of a grid: its lanes, the operation under way in each, and the range of every number.
 ghost use mathlib.Core.Path.{_≡_};
-ghost use Rattle.lanes.specs.Ranges.{placeFits, linkFits, checkFits, stageFits, opFits, laneFits, sizesFit, stateFits};
+ghost use Rattle.lanes.specs.Ranges.{idle, placeFits, linkFits, checkFits, stageFits, opFits, laneFits, sizesFit};
 use numbers::CELLS;
 use numbers::Cell;
 use numbers::LANES;
@@ -68,6 +68,19 @@ pub struct State {
     pub lanes: [Lane; LANES],
 }
 
+// Whether no operation is under way.
+pub fn idle(o: Op) -> bool
+    ensures { λ r. ⌜ r ≡ idle o ⌝ }
+{
+    match o {
+        Op::Idle => true,
+        Op::Read(_, _) => false,
+        Op::Reading(_) => false,
+        Op::Asked(_, _) => false,
+        Op::Write(_, _) => false,
+    }
+}
+
 fn place_fits(m: u32, n: Place) -> bool
     ensures { λ r. ⌜ r ≡ placeFits m n ⌝ }
 {
@@ -123,7 +136,7 @@ fn op_fits(p: u32, m: u32, steps: u8, o: Op) -> bool
     }
 }
 
-// Whether a lane's numbers are in their ranges, in a grid of p processes and m cells.
+// Whether a lane's numbers are in their ranges, in a grid of p processes and m cells. Most lanes are at rest: asked first.
 pub fn lane_fits(p: u32, m: u32, l: Lane) -> bool
     ensures { λ r. ⌜ r ≡ laneFits p m l ⌝ }
 {
@@ -133,10 +146,13 @@ pub fn lane_fits(p: u32, m: u32, l: Lane) -> bool
     if SEGMENTS < l.drawn as u32 {
         return false;
     }
+    let o = l.op;
+    if idle(o) {
+        return l.steps == 0;
+    }
     if STEPS < l.steps {
         return false;
     }
-    let o = l.op;
     op_fits(p, m, l.steps, o)
 }
 

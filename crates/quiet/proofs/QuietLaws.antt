@@ -14,7 +14,7 @@ use Rattle.refusals.specs.Orders.{pick}
 use Rattle.lanes.specs.declared.Check.{Check}
 use Rattle.lanes.specs.declared.Check.the-variants as Check
 use Rattle.lanes.specs.declared.State.{State}
-use Rattle.lanes.specs.Ranges.{laneOf, below, laneFits, sizesFit, stateFits}
+use Rattle.lanes.specs.Ranges.{laneOf, idle, below, laneFits, sizesFit, stateFits}
 use Rattle.lanes.specs.Laws.{and-left, below-more}
 use Rattle.lanes.specs.Scan.{Passed, passed-all}
 use Rattle.steps.specs.declared.Found.{Found}
@@ -23,7 +23,6 @@ use Rattle.steps.specs.declared.Got.{Got}
 use Rattle.steps.specs.declared.Got.the-variants as Got
 use Rattle.steps.specs.Memory.{Memory}
 use Rattle.steps.specs.Steps.{check}
-use Rattle.grid.specs.Calls.{idle}
 use Rattle.quiet.specs.declared.Scan.the-variants as Scan
 use Rattle.quiet.specs.Quiet.{marksAt, seenIn, onward, lookedAt, readingAs, readingAt, atRest, scanOf}
 

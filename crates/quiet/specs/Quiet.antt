@@ -11,14 +11,14 @@ use Rattle.refusals.specs.Orders.{pick}
 use Rattle.lanes.specs.declared.Check.{Check}
 use Rattle.lanes.specs.declared.Check.the-variants as Check
 use Rattle.lanes.specs.declared.State.{State}
-use Rattle.lanes.specs.Ranges.{laneOf, below, stateFits}
+use Rattle.lanes.specs.Ranges.{laneOf, idle, below, stateFits}
 use Rattle.steps.specs.declared.Found.{Found}
 use Rattle.steps.specs.declared.Found.the-variants as Found
 use Rattle.steps.specs.declared.Got.{Got}
 use Rattle.steps.specs.declared.Got.the-variants as Got
 use Rattle.steps.specs.Memory.{Memory}
 use Rattle.steps.specs.Steps.{check}
-use Rattle.grid.specs.Calls.{idle, namedIn}
+use Rattle.grid.specs.Calls.{namedIn}
 use Rattle.quiet.specs.declared.Scan.{Scan}
 use Rattle.quiet.specs.declared.Scan.the-variants as Scan
 

@@ -30,7 +30,7 @@ pub fn scan_of(s: State) -> Scan
         let l = s.lanes[i];
         let o = l.op;
         fits = begins::both(fits, lanes::lane_fits(s.p, s.m, l));
-        calm = begins::both(calm, begins::idle(o));
+        calm = begins::both(calm, lanes::idle(o));
         i = i + 1;
     }
     if !fits {

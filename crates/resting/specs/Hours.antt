@@ -8,10 +8,9 @@ use borrow.Author.Tests.{lt-ltb, le-ltb}
 use Rattle.numbers.specs.Numbers.{fillOf}
 use Rattle.refusals.specs.declared.Refusal.the-variants as Refusal
 use Rattle.lanes.specs.declared.State.{State}
-use Rattle.lanes.specs.Ranges.{laneOf}
+use Rattle.lanes.specs.Ranges.{laneOf, idle}
 use Rattle.lanes.specs.Laws.{below-all}
 use Rattle.steps.specs.Memory.{Memory}
-use Rattle.grid.specs.Calls.{idle}
 use Rattle.quiet.specs.declared.Scan.the-variants as Scan
 use Rattle.quiet.specs.Quiet.{atRest, scanOf}
 use Rattle.summary.specs.declared.Summary.the-variants as Summary

@@ -2,11 +2,11 @@
 -- Assumes nothing.
 use Prim.Native.Nat.{_≤_, _-_}
 use native.Mathlib.Omega.{arith}
-use mathlib.Core.Path.{refl, ap, _∙_}
+use mathlib.Core.Path.{refl, sym, ap, _∙_}
 use borrow.Author.Needs.{needs}
 use Rattle.grid.specs.Inner.{laneAt}
 use Rattle.lanes.specs.Scan.{Passed, passed-none, passed-more, few-lanes}
-use Rattle.grid.proofs.StateLaws.{loop-end, judged-at, step-is}
+use Rattle.grid.proofs.StateLaws.{loop-end, judged-at, step-is, step-kept}
 use Rattle.grid.proofs.step.Statement.{statement}
 use Rattle.grid.proofs.step.Tie as tie
 
@@ -74,11 +74,14 @@ act-requires c κs =
     let fine = loop-end s _ _ _ _ (d .before .before .before .sizes-fit .ensures) (d .before .before .lanes-below .ensures .1) (d .before .loop .inv .0) (d .loop-test .left) (d .before .loop .inv .1) in
     judged-at s (d .before .before .before .before .before .before .before .before .before .before .before .before .before .args .q .0) _ (d .before .before .before .before .before .before .before .before .lane-of .ensures .0) _ refl _ fine
 
+changes-requires : tie.Need-changes-requires Inv-loop μ-loop
+changes-requires c κs = search needs
+
 mul-lane : tie.Need-mul-lane Inv-loop μ-loop
-mul-lane c = omega (arith, c .before .before .before .before .before .before .before .before .before .before .before .before .before .before .before .before .before .before .before .before .before .before .lane-of .ensures .1)
+mul-lane c = omega (arith, c .before .before .before .before .before .before .before .before .before .before .before .before .before .before .before .before .before .before .before .before .before .before .before .before .lane-of .ensures .1)
 
 element-set-from-lane : tie.Need-element-set-from-lane Inv-loop μ-loop
-element-set-from-lane c = omega (arith, c .before .before .before .before .before .before .before .before .before .before .before .before .before .before .before .before .before .before .before .before .before .before .lane-of .ensures .1)
+element-set-from-lane c = omega (arith, c .before .before .before .before .before .before .before .before .before .before .before .before .before .before .before .before .before .before .before .before .before .before .before .before .lane-of .ensures .1)
 
 same-length : tie.Need-same-length Inv-loop μ-loop
 same-length c = search needs
@@ -94,11 +97,33 @@ same-length-4 c = search needs
 
 returns : tie.Need-returns Inv-loop μ-loop
 returns c =
-    let d = c .before .before .before .before .before .before .before .before .before .before .before .before .before .before in
-    let s = d .before .before .before .before .before .before .before .before .before .before .before .before .before .args .s in
-    let fine = loop-end s _ _ _ _ (d .before .before .before .sizes-fit .ensures) (d .before .before .lanes-below .ensures .1) (d .before .loop .inv .0) (d .loop-test .left) (d .before .loop .inv .1) in
-    let named = d .before .before .before .before .before .before .named .ensures in
-    step-is s (d .before .before .before .before .before .before .before .before .before .before .before .before .before .args .q .0) _ (d .before .before .before .before .before .before .before .before .lane-of .ensures .0) _ refl _ _ (d .before .before .before .before .before .lane-of2 .ensures .0 ∙ ap laneAt named) refl _ _ _ _ fine (c .before .before .before .before .before .before .before .before .before .act .ensures)
+    let d = c .before .before .before .before .before .before .before .before .before .before .before .before .before .before .before .before in
+    let e = d .before .before .before .before .before in
+    let args = e .before .before .before .before .before .before .before .before .args in
+    let fine = loop-end (args .s) _ _ _ _ (d .before .before .before .sizes-fit .ensures) (d .before .before .lanes-below .ensures .1) (d .before .loop .inv .0) (d .loop-test .left) (d .before .loop .inv .1) in
+    let seen = e .lane-of2 .ensures .0 ∙ ap laneAt (e .before .named .ensures) in
+    step-is (args .s) (args .q .0) _ (e .before .before .before .lane-of .ensures .0) _ refl _ _ seen refl _ _ _ _ fine (c .before .before .before .before .before .before .before .before .before .before .before .act .ensures)
+
+same-length-5 : tie.Need-same-length-5 Inv-loop μ-loop
+same-length-5 c = search needs
+
+same-length-6 : tie.Need-same-length-6 Inv-loop μ-loop
+same-length-6 c = search needs
+
+same-length-7 : tie.Need-same-length-7 Inv-loop μ-loop
+same-length-7 c = search needs
+
+same-length-8 : tie.Need-same-length-8 Inv-loop μ-loop
+same-length-8 c = search needs
+
+returns-2 : tie.Need-returns-2 Inv-loop μ-loop
+returns-2 c =
+    let d = c .before .before .before .before .before .before .before .before .before .before .before .before .before .before .before in
+    let e = d .before .before .before .before .before in
+    let args = e .before .before .before .before .before .before .before .before .args in
+    let fine = loop-end (args .s) _ _ _ _ (d .before .before .before .sizes-fit .ensures) (d .before .before .lanes-below .ensures .1) (d .before .loop .inv .0) (d .loop-test .left) (d .before .loop .inv .1) in
+    let seen = e .lane-of2 .ensures .0 ∙ ap laneAt (e .before .named .ensures) in
+    step-kept (args .s) (args .q .0) _ (e .before .before .before .lane-of .ensures .0) _ refl _ _ seen refl _ _ _ _ fine (c .before .before .before .before .before .before .before .before .before .before .act .ensures) (sym (c .before .changes .ensures) ∙ c .if1 .left)
 
 pub step-spec : {M : Type 1} → statement M
 step-spec =
@@ -124,10 +149,16 @@ step-spec =
     loop-less
     loop-again
     act-requires
+    changes-requires
     mul-lane
     element-set-from-lane
     same-length
     same-length-2
     same-length-3
     same-length-4
-    returns)
+    returns
+    same-length-5
+    same-length-6
+    same-length-7
+    same-length-8
+    returns-2)

@@ -1,6 +1,6 @@
 -- `lanes::lane_fits` meets its contract.
 -- Assumes nothing.
-use Rattle.lanes.proofs.FitLaws.{many-marks, many-segments, many-steps, lane-op}
+use Rattle.lanes.proofs.FitLaws.{many-marks, many-segments, many-steps, lane-rests, lane-op}
 use borrow.Author.Needs.{needs}
 use Rattle.lanes.proofs.lane_fits.Statement.{statement}
 use Rattle.lanes.proofs.lane_fits.Tie as tie
@@ -20,14 +20,20 @@ cast-if2 c = search needs
 returns-2 : tie.Need-returns-2
 returns-2 c = search (many-segments)
 
+idle-requires : tie.Need-idle-requires
+idle-requires c κs = search needs
+
 returns-3 : tie.Need-returns-3
-returns-3 c = search (many-steps)
+returns-3 c = search (lane-rests)
+
+returns-4 : tie.Need-returns-4
+returns-4 c = search (many-steps)
 
 op-fits-requires : tie.Need-op-fits-requires
 op-fits-requires c κs = search needs
 
-returns-4 : tie.Need-returns-4
-returns-4 c = search (lane-op)
+returns-5 : tie.Need-returns-5
+returns-5 c = search (lane-op)
 
 pub lane-fits-spec : {M : Type 1} → statement M
 lane-fits-spec =
@@ -38,6 +44,8 @@ lane-fits-spec =
     returns
     cast-if2
     returns-2
+    idle-requires
     returns-3
+    returns-4
     op-fits-requires
-    returns-4)
+    returns-5)

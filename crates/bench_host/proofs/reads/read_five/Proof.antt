@@ -3,8 +3,8 @@ use borrow.Author.Needs.{needs}
 use native.Mathlib.Omega.{arith}
 use borrow.Author.Needs.{needs}
 use native.Mathlib.Omega.{arith}
-use Rattle.bench_host.proofs.read_five.Statement.{statement}
-use Rattle.bench_host.proofs.read_five.Tie as tie
+use Rattle.bench_host.proofs.reads.read_five.Statement.{statement}
+use Rattle.bench_host.proofs.reads.read_five.Tie as tie
 
 begin-requires : tie.Need-begin-requires
 begin-requires c κs = search needs

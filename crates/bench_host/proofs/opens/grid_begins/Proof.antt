@@ -1,8 +1,8 @@
 -- Beginning again and again is safe, and ends after n turns. Assumes nothing.
 use borrow.Author.Needs.{needs}
 use Prim.Native.Nat.{_-_, _<_, _≤_}
-use Rattle.bench_host.proofs.grid_begins.Statement.{statement}
-use Rattle.bench_host.proofs.grid_begins.Tie as tie
+use Rattle.bench_host.proofs.opens.grid_begins.Statement.{statement}
+use Rattle.bench_host.proofs.opens.grid_begins.Tie as tie
 
 abbrev Inv-loop : tie.InvT-loop
 Inv-loop readings links directory pool p m n t sum₀ i₀ sum i =

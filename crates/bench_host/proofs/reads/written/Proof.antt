@@ -3,8 +3,8 @@ use borrow.Author.Needs.{needs}
 use Prim.Native.Nat.{_-_, _<_, _≤_}
 use mathlib.Core.Path.{_≡_}
 use lib.ListN.{length}
-use Rattle.bench_host.proofs.written.Statement.{statement}
-use Rattle.bench_host.proofs.written.Tie as tie
+use Rattle.bench_host.proofs.reads.written.Statement.{statement}
+use Rattle.bench_host.proofs.reads.written.Tie as tie
 
 abbrev Inv-loop : tie.InvT-loop
 Inv-loop q readings₀ links₀ directory₀ pool₀ t₀ k₀ readings links directory pool t k =

@@ -3,8 +3,8 @@ use borrow.Author.Needs.{needs}
 use Prim.Native.Nat.{_-_, _<_, _≤_}
 use mathlib.Core.Path.{_≡_}
 use lib.ListN.{length}
-use Rattle.bench_host.proofs.grid_reads.Statement.{statement}
-use Rattle.bench_host.proofs.grid_reads.Tie as tie
+use Rattle.bench_host.proofs.reads.grid_reads.Statement.{statement}
+use Rattle.bench_host.proofs.reads.grid_reads.Tie as tie
 
 abbrev Inv-loop : tie.InvT-loop
 Inv-loop readings₀ links₀ directory₀ pool₀ outcomes₀ p m q steps five s₀ i₀ readings links directory pool outcomes s i =
