@@ -6,9 +6,9 @@ use mathlib.Core.Bool.{Bool, true, false}
 use mathlib.Core.List.{List}
 use native.Mathlib.Omega.{arith}
 use native.Mathlib.Numerals.{add-one}
-use lib.Dec.{eqb, ltb}
+use lib.Dec.{eqb, leb, ltb}
 use lib.ListN.{length, getD, set, length-set}
-use borrow.Author.Tests.{lt-ltb, le-ltb, eq-eqb, ne-eqb, ltb-true, ltb-false}
+use borrow.Author.Tests.{lt-ltb, le-ltb, lt-leb, le-leb, eq-eqb, ne-eqb, ltb-true, ltb-false}
 use Rattle.numbers.specs.declared.Cell.{Cell}
 use Rattle.refusals.specs.Numbers.{numberOf}
 use Rattle.refusals.specs.Orders.{pick}
@@ -21,14 +21,15 @@ use Rattle.lanes.specs.Scan.{Passed, passed-all}
 use Rattle.steps.specs.declared.Sizes.{Sizes}
 use Rattle.steps.specs.Memory.{Memory, memory}
 use Rattle.grid.specs.declared.Acted.{Acted}
+use Rattle.grid.specs.declared.Stepped.{Stepped}
 use Rattle.grid.specs.declared.Ask.{Ask}
 use Rattle.grid.specs.declared.Ask.the-variants as Ask
 use Rattle.grid.specs.declared.Answer.{Answer}
 use Rattle.grid.specs.declared.Answer.the-variants as Answer
-use Rattle.grid.specs.Calls.{begunOf, effect, actOf, sizesOf, steppedAs, named, Effect, Outcome, outcome, outcomeAs, beginOf, stepOf}
-use Rattle.grid.specs.Inner.{laneAt}
-use Rattle.grid.proofs.StateLaws.{begun-is, step-is}
-use Rattle.batch.specs.Batch.{entered, codeWith, bit, codeOf, Batch, batch, answered, onward, after, least, entries, batchOf, begins, entryOf}
+use Rattle.grid.specs.Calls.{begunOf, effect, actOf, sizesOf, steppedAs, named, Effect, Outcome, outcome, outcomeAs, beginOf, verdictOf, stepOf}
+use Rattle.grid.specs.Inner.{laneAt, changes}
+use Rattle.grid.proofs.StateLaws.{begun-is, begun-kept, step-is, moved-kept}
+use Rattle.batch.specs.Batch.{beginning, askOf, entered, codeWith, bit, codeOf, Batch, batch, answered, onward, after, least, entries, batchOf, entryOf}
 use Rattle.batch.specs.Kept.{begin-keeps, step-keeps}
 
 pub first-least : (a b : ℕ) → a < b → a ≡ least a b
@@ -72,20 +73,28 @@ module _ (a : Answer) (c : ℕ) where
   pub code-refused : (r : Refusal) (n : ℕ) → a ≡ Answer.Refused r → n ≡ numberOf r → c ≡ codeWith 5 n 0 → c ≡ codeOf a
   code-refused r n e f h = rw e (h ∙ rw f)
 
-module _ (fits : Bool) (z : Sizes) (q : ℕ) (l : Lane) (seen kind : ℕ) (i : Cell) (v : ℕ) (mem : Memory) (b : Acted) where
-  pub entry-read : kind ≡ 1 → b ≡ begunOf fits (z .p) (z .m) (z .top) q l (Ask.Read i) → effect b mem ≡ entryOf fits z q l seen kind i v mem
-  entry-read h e = simp (eq-eqb _ _ h) (rw e)
+pub not-beginning : (kind : ℕ) → kind < 1 → false ≡ beginning kind
+not-beginning kind h = simp (lt-leb _ _ h)
 
-  module _ (h : kind ≡ 1 → ⊥) where
-    pub entry-write : kind ≡ 2 → b ≡ begunOf fits (z .p) (z .m) (z .top) q l (Ask.Write i v) → effect b mem ≡ entryOf fits z q l seen kind i v mem
-    entry-write k e = simp (ne-eqb _ _ h, eq-eqb _ _ k) (rw e)
+pub maybe-beginning : (kind : ℕ) → 1 ≤ kind → leb kind 3 ≡ beginning kind
+maybe-beginning kind h = simp (le-leb _ _ h)
 
-    module _ (k : kind ≡ 2 → ⊥) where
-      pub entry-asked : kind ≡ 3 → b ≡ begunOf fits (z .p) (z .m) (z .top) q l (Ask.Asked i) → effect b mem ≡ entryOf fits z q l seen kind i v mem
-      entry-asked j e = simp (ne-eqb _ _ h, ne-eqb _ _ k, eq-eqb _ _ j) (rw e)
+module _ (kind : ℕ) (i : Cell) (v : ℕ) where
+  pub ask-read : kind ≡ 1 → Ask.Read i ≡ askOf kind i v
+  ask-read h = simp (eq-eqb _ _ h)
 
-      pub entry-step : (mem′ : Memory) → (kind ≡ 3 → ⊥) → effect b mem′ ≡ actOf fits z q l seen mem → effect b mem′ ≡ entryOf fits z q l seen kind i v mem
-      entry-step mem′ j e = simp (ne-eqb _ _ h, ne-eqb _ _ k, ne-eqb _ _ j) e
+  pub ask-write : (kind ≡ 1 → ⊥) → kind ≡ 2 → Ask.Write i v ≡ askOf kind i v
+  ask-write h k = simp (ne-eqb _ _ h, eq-eqb _ _ k)
+
+  pub ask-asked : (kind ≡ 1 → ⊥) → (kind ≡ 2 → ⊥) → Ask.Asked i ≡ askOf kind i v
+  ask-asked h k = simp (ne-eqb _ _ h, ne-eqb _ _ k)
+
+module _ (fits : Bool) (z : Sizes) (q : ℕ) (l : Lane) (seen kind : ℕ) (i : Cell) (v : ℕ) (mem : Memory) (b : Acted) (r : Bool) (e : r ≡ beginning kind) where
+  pub entry-begun : (a : Ask) → r ≡ true → a ≡ askOf kind i v → b ≡ begunOf fits (z .p) (z .m) (z .top) q l a → effect b mem ≡ entryOf fits z q l seen kind i v mem
+  entry-begun a h f g = simp (sym e ∙ h) (rw (g, f))
+
+  pub entry-step : (mem′ : Memory) → r ≡ false → effect b mem′ ≡ actOf fits z q l seen mem → effect b mem′ ≡ entryOf fits z q l seen kind i v mem
+  entry-step mem′ h g = simp (sym e ∙ h) g
 
 pub fits-end : (s : State) (b : Bool) (end i : ℕ) (fits : Bool) → b ≡ sizesFit (s .p) (s .m) (s .top) → end ≡ pick b (s .p) 0 → i ≤ end → end ≤ i
     → Passed s i fits → fits ≡ stateFits s
@@ -97,36 +106,39 @@ fits-end s b end i fits e f low high h = passed-all s b i fits e is-p h
 -- an entry on the lane at k is the entry on the state
 module _ (s : State) (q k : ℕ) (at : k ≡ laneAt q) (j : ℕ) (from : j ≡ laneAt (named (laneOf s k .op))) (fits : Bool) (e : fits ≡ stateFits s)
     (mem mem′ : Memory) (kind : ℕ) (i : Cell) (v : ℕ) (b : Acted) where
-  begun-out : (a : Ask) → effect b mem′ ≡ begins fits (sizesOf s) q (laneOf s k) mem a → outcome (steppedAs s k b) mem′ ≡ outcome (beginOf s q a) mem
-  begun-out a f =
-      let g : b ≡ begunOf fits (s .p) (s .m) (s .top) q (laneOf s k) a = ap (λ (x : Effect). x .acted) f in
+  abbrev Entry : Bool → Type 0
+  Entry w =
+      effect b mem′ ≡ pick w (effect (begunOf fits (s .p) (s .m) (s .top) q (laneOf s k) (askOf kind i v)) mem) (actOf fits (sizesOf s) q (laneOf s k) (laneOf s j .marks) mem)
+
+  out-by : (w : Bool) → Entry w → outcome (steppedAs s k b) mem′ ≡ pick w (outcome (beginOf s q (askOf kind i v)) mem) (stepOf s q mem)
+  out-by true f =
+      let g : b ≡ begunOf fits (s .p) (s .m) (s .top) q (laneOf s k) (askOf kind i v) = ap (λ (x : Effect). x .acted) f in
       let m : mem′ ≡ mem = ap (λ (x : Effect). x .memory) f in
-      rw (begun-is s q k at (laneOf s k) refl fits a b e g, m)
+      rw (begun-is s q k at (laneOf s k) refl fits (askOf kind i v) b e g, m)
+  out-by false f = step-is s q k at (laneOf s k) refl j (laneOf s j) from refl fits mem mem′ b e f
 
-  by : (w x y : Bool)
-      → effect b mem′ ≡ pick w (begins fits (sizesOf s) q (laneOf s k) mem (Ask.Read i)) (pick x (begins fits (sizesOf s) q (laneOf s k) mem (Ask.Write i v))
-      (pick y (begins fits (sizesOf s) q (laneOf s k) mem (Ask.Asked i)) (actOf fits (sizesOf s) q (laneOf s k) (laneOf s j .marks) mem)))
-      → outcome (steppedAs s k b) mem′ ≡ pick w (outcome (beginOf s q (Ask.Read i)) mem) (pick x (outcome (beginOf s q (Ask.Write i v)) mem)
-      (pick y (outcome (beginOf s q (Ask.Asked i)) mem) (stepOf s q mem)))
-  by true x y f = begun-out (Ask.Read i) f
-  by false true y f = begun-out (Ask.Write i v) f
-  by false false true f = begun-out (Ask.Asked i) f
-  by false false false f = step-is s q k at (laneOf s k) refl j (laneOf s j) from refl fits mem mem′ b e f
+  pub entry-is : Entry (beginning kind) → outcome (steppedAs s k b) mem′ ≡ entered s mem kind q i v
+  entry-is f = out-by (beginning kind) f
 
-  pub entry-is : effect b mem′ ≡ entryOf fits (sizesOf s) q (laneOf s k) (laneOf s j .marks) kind i v mem
-      → outcome (steppedAs s k b) mem′ ≡ entered s mem kind q i v
-  entry-is f = by (eqb kind 1) (eqb kind 2) (eqb kind 3) f
+  -- an entry that is refused leaves the state as it is
+  kept-by : (w : Bool) → Entry w → changes (b .answer) ≡ false → s ≡ steppedAs s k b .state
+  kept-by true f h =
+      ap (λ (x : Stepped). x .state)
+      (begun-kept s q k at (laneOf s k) refl fits (askOf kind i v) b (ap (λ (x : Effect). x .acted) f) h)
+  kept-by false f h =
+      ap (λ (x : Stepped). x .state)
+      (moved-kept s q k at (laneOf s k) refl j (laneOf s j) from refl (verdictOf fits (sizesOf s) q (laneOf s k) (laneOf s j .marks) mem) mem mem′ b f h)
+
+  entry-kept : Entry (beginning kind) → (r : Bool) → r ≡ changes (b .answer) → r ≡ false → s ≡ steppedAs s k b .state
+  entry-kept f r g h = kept-by (beginning kind) f (sym g ∙ h)
 
 -- an entry keeps a state in its ranges there
 pub entered-keeps : (s : State) (mem : Memory) (kind q : ℕ) (i : Cell) (v : ℕ) → stateFits (entered s mem kind q i v .stepped .state) ≡ stateFits s
-entered-keeps s mem kind q i v = by (eqb kind 1) (eqb kind 2) (eqb kind 3)
+entered-keeps s mem kind q i v = by (beginning kind)
   where
-    by : (w x y : Bool) → stateFits (pick w (outcome (beginOf s q (Ask.Read i)) mem) (pick x (outcome (beginOf s q (Ask.Write i v)) mem)
-        (pick y (outcome (beginOf s q (Ask.Asked i)) mem) (stepOf s q mem))) .stepped .state) ≡ stateFits s
-    by true x y = begin-keeps s q (Ask.Read i)
-    by false true y = begin-keeps s q (Ask.Write i v)
-    by false false true = begin-keeps s q (Ask.Asked i)
-    by false false false = step-keeps s q mem
+    by : (w : Bool) → stateFits (pick w (outcome (beginOf s q (askOf kind i v)) mem) (stepOf s q mem) .stepped .state) ≡ stateFits s
+    by true = begin-keeps s q (askOf kind i v)
+    by false = step-keeps s q mem
 
 -- the loop: the first i entries are done
 module _ (kinds processes cells values : List ℕ) (s : State) (mem : Memory) (answers : List ℕ) where
@@ -207,16 +219,15 @@ module _ (kinds processes cells values answers₀ readings₀ links₀ directory
 
   module _ (answers readings links directory pool : List ℕ) (t : State) (i : ℕ)
       (G : Going kinds processes cells values answers₀ readings₀ links₀ directory₀ pool₀ s fits n answers readings links directory pool t i) where
-    pub going-more : (answers′ readings′ links′ directory′ pool′ : List ℕ) (k j code : ℕ) (b : Acted) → i < n → k ≡ laneAt (getD processes i 0)
+    pub going-more : (answers′ readings′ links′ directory′ pool′ : List ℕ) (t′ : State) (k j code : ℕ) (b : Acted) → t′ ≡ steppedAs t k b .state → i < n → k ≡ laneAt (getD processes i 0)
         → j ≡ laneAt (named (laneOf t k .op))
         → effect b (memory readings′ links′ directory′ pool′)
         ≡ entryOf fits (sizesOf t) (getD processes i 0) (laneOf t k) (laneOf t j .marks) (getD kinds i 0) (record { 0 = getD cells i 0 }) (getD values i 0)
         (memory readings links directory pool)
         → code ≡ codeOf (b .answer) → answers′ ≡ set answers i code → length readings′ ≡ length readings → length links′ ≡ length links → length directory′ ≡ length directory
         → length pool′ ≡ length pool
-        → Going kinds processes cells values answers₀ readings₀ links₀ directory₀ pool₀ s fits n answers′ readings′ links′ directory′ pool′
-        (steppedAs t k b .state) (i + 1)
-    going-more answers′ readings′ links′ directory′ pool′ k j code b low at from f g ea er el ed ep = rw ea (record {
+        → Going kinds processes cells values answers₀ readings₀ links₀ directory₀ pool₀ s fits n answers′ readings′ links′ directory′ pool′ t′ (i + 1)
+    going-more answers′ readings′ links′ directory′ pool′ t′ k j code b et low at from f g ea er el ed ep = rw (ea, et) (record {
       at = omega arith;
       few = G .few;
       number = G .number;
@@ -235,6 +246,21 @@ module _ (kinds processes cells values answers₀ readings₀ links₀ directory
             ≡ entered t (memory readings links directory pool) (getD kinds i 0) (getD processes i 0) (record { 0 = getD cells i 0 }) (getD values i 0)
         out = entry-is t (getD processes i 0) k at j from fits (G .fine) (memory readings links directory pool) (memory readings′ links′ directory′ pool′)
             (getD kinds i 0) (record { 0 = getD cells i 0 }) (getD values i 0) b f
+
+    -- a refused entry: the state stays
+    pub going-kept : (answers′ readings′ links′ directory′ pool′ : List ℕ) (k j code : ℕ) (b : Acted) (r : Bool) → r ≡ changes (b .answer) → r ≡ false → i < n
+        → k ≡ laneAt (getD processes i 0) → j ≡ laneAt (named (laneOf t k .op))
+        → effect b (memory readings′ links′ directory′ pool′)
+        ≡ entryOf fits (sizesOf t) (getD processes i 0) (laneOf t k) (laneOf t j .marks) (getD kinds i 0) (record { 0 = getD cells i 0 }) (getD values i 0)
+        (memory readings links directory pool)
+        → code ≡ codeOf (b .answer) → answers′ ≡ set answers i code → length readings′ ≡ length readings → length links′ ≡ length links → length directory′ ≡ length directory
+        → length pool′ ≡ length pool
+        → Going kinds processes cells values answers₀ readings₀ links₀ directory₀ pool₀ s fits n answers′ readings′ links′ directory′ pool′ t (i + 1)
+    going-kept answers′ readings′ links′ directory′ pool′ k j code b r is stays low at from f =
+        going-more answers′ readings′ links′ directory′ pool′ t k j code b
+        (entry-kept t (getD processes i 0) k at j from fits (G .fine) (memory readings links directory pool) (memory readings′ links′ directory′ pool′)
+        (getD kinds i 0) (record { 0 = getD cells i 0 }) (getD values i 0) b f r is stays)
+        low at from f
 
     pub going-end : n ≤ i → batch t (memory readings links directory pool) answers
         ≡ batchOf s (memory readings₀ links₀ directory₀ pool₀) answers₀ kinds processes cells values

@@ -1,9 +1,9 @@
 -- A list of begins and steps on one grid: the fold of the definitions of begin and step.
 -- Assumes nothing.
 use Prim.Native.Nat.{ℕ, zero, suc, _+_, _*_}
-use mathlib.Core.Bool.{Bool, true, false}
+use mathlib.Core.Bool.{Bool, true, false, _&&_}
 use mathlib.Core.List.{List}
-use lib.Dec.{ltb, eqb}
+use lib.Dec.{ltb, leb, eqb}
 use lib.ListN.{length, getD, set}
 use Rattle.numbers.specs.declared.Cell.{Cell}
 use Rattle.refusals.specs.Numbers.{numberOf}
@@ -13,17 +13,21 @@ use Rattle.lanes.specs.declared.State.{State}
 use Rattle.lanes.specs.Ranges.{laneOf, stateFits}
 use Rattle.steps.specs.declared.Sizes.{Sizes}
 use Rattle.steps.specs.Memory.{Memory}
+use Rattle.grid.specs.declared.Ask.{Ask}
 use Rattle.grid.specs.declared.Ask.the-variants as Ask
 use Rattle.grid.specs.declared.Answer.{Answer}
 use Rattle.grid.specs.declared.Answer.the-variants as Answer
 use Rattle.grid.specs.Calls.{beginOf, begunOf, Effect, effect, actOf, Outcome, outcome, stepOf}
 
 -- An entry of kind 1 begins a read, 2 a write, 3 an asked; one of any other kind is a step.
+abbrev pub beginning : ℕ → Bool
+beginning kind = leb 1 kind && leb kind 3
+
+abbrev pub askOf : ℕ → Cell → ℕ → Ask
+askOf kind i v = pick (eqb kind 1) (Ask.Read i) (pick (eqb kind 2) (Ask.Write i v) (Ask.Asked i))
+
 abbrev pub entered : State → Memory → ℕ → ℕ → Cell → ℕ → Outcome
-entered s mem kind q i v =
-    pick (eqb kind 1) (outcome (beginOf s q (Ask.Read i)) mem)
-    (pick (eqb kind 2) (outcome (beginOf s q (Ask.Write i v)) mem)
-    (pick (eqb kind 3) (outcome (beginOf s q (Ask.Asked i)) mem) (stepOf s q mem)))
+entered s mem kind q i v = pick (beginning kind) (outcome (beginOf s q (askOf kind i v)) mem) (stepOf s q mem)
 
 -- An answer as a word: its kind, 256 times its steps or its refusal's number, 2^32 times its value.
 abbrev pub codeWith : ℕ → ℕ → ℕ → ℕ
@@ -76,11 +80,6 @@ batchOf s mem answers kinds processes cells values =
     after kinds processes cells values (batch s mem answers) (entries kinds processes cells values answers)
 
 -- An entry on the lane of its process, where the state's numbers are known to fit or not.
-abbrev pub begins : Bool → Sizes → ℕ → Lane → Memory → Rattle.grid.specs.declared.Ask.Ask → Effect
-begins fits z q l mem a = effect (begunOf fits (z .p) (z .m) (z .top) q l a) mem
-
 abbrev pub entryOf : Bool → Sizes → ℕ → Lane → ℕ → ℕ → Cell → ℕ → Memory → Effect
 entryOf fits z q l seen kind i v mem =
-    pick (eqb kind 1) (begins fits z q l mem (Ask.Read i))
-    (pick (eqb kind 2) (begins fits z q l mem (Ask.Write i v))
-    (pick (eqb kind 3) (begins fits z q l mem (Ask.Asked i)) (actOf fits z q l seen mem)))
+    pick (beginning kind) (effect (begunOf fits (z .p) (z .m) (z .top) q l (askOf kind i v)) mem) (actOf fits z q l seen mem)

@@ -6,7 +6,7 @@ ghost use Rattle.lanes.specs.Ranges.{stateFits};
 ghost use Rattle.steps.specs.Memory.{memory};
 ghost use Rattle.grid.specs.Calls.{effect};
 ghost use Rattle.grid.specs.Inner.{Judged};
-ghost use Rattle.batch.specs.Batch.{least, bit, codeWith, codeOf, entryOf, batch, batchOf};
+ghost use Rattle.batch.specs.Batch.{least, bit, codeWith, codeOf, beginning, askOf, entryOf, batch, batchOf};
 use grid::Acted;
 use grid::Answer;
 use grid::Ask;
@@ -63,6 +63,24 @@ fn code_of(a: Answer) -> u64
     }
 }
 
+fn beginning(kind: u8) -> bool
+    ensures { λ r. ⌜ r ≡ beginning kind ⌝ }
+{
+    if kind < 1 { false } else { kind <= 3 }
+}
+
+fn ask_of(kind: u8, i: Cell, v: u32) -> Ask
+    ensures { λ r. ⌜ r ≡ askOf kind i v ⌝ }
+{
+    if kind == 1 {
+        return Ask::Read(i);
+    }
+    if kind == 2 {
+        return Ask::Write(i, v);
+    }
+    Ask::Asked(i)
+}
+
 // One entry: a begin of the kinds 1 to 3, else a step.
 fn entry(
     fits: bool,
@@ -78,17 +96,11 @@ fn entry(
     directory: &mut [u32],
     pool: &mut [u32],
 ) -> Acted
-    requires { ⌜ Judged fits z (q .0) l ⌝ }
+    requires { ⌜ Judged fits z (q .0) l seen ⌝ }
     ensures { λ r. ⌜ effect r (memory (now (readings .exit)) (now (links .exit)) (now (directory .exit)) (now (pool .exit))) ≡ entryOf fits z (q .0) l seen kind i v (memory (now (readings .entry)) (now (links .entry)) (now (directory .entry)) (now (pool .entry))) ⌝ }
 {
-    if kind == 1 {
-        return begins::begun(fits, z.p, z.m, z.top, q, l, Ask::Read(i));
-    }
-    if kind == 2 {
-        return begins::begun(fits, z.p, z.m, z.top, q, l, Ask::Write(i, v));
-    }
-    if kind == 3 {
-        return begins::begun(fits, z.p, z.m, z.top, q, l, Ask::Asked(i));
+    if beginning(kind) {
+        return begins::begun(fits, z.p, z.m, z.top, q, l, ask_of(kind, i, v));
     }
     acts::act(fits, z, q, l, seen, readings, links, directory, pool)
 }
@@ -155,12 +167,14 @@ pub fn run(
             directory,
             pool,
         );
-        let lane = b.lane;
         let answer = b.answer;
-        t.top = b.top;
-        t.lanes[k] = lane;
         put(answers, i, code_of(answer));
         i = i + 1;
+        if acts::changes(answer) {
+            let lane = b.lane;
+            t.top = b.top;
+            t.lanes[k] = lane;
+        }
     }
     t
 }

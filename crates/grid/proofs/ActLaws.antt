@@ -5,8 +5,9 @@ use mathlib.Core.Bool.{Bool, true, false, not, _&&_}
 use mathlib.Core.List.{List}
 use Prim.Native.Nat.{ℕ, _+_, _<_, _≤_}
 use native.Mathlib.Omega.{arith}
+use lib.Dec.{leb}
 use borrow.Author.Tests.{lt-ltb, le-ltb, le-leb, lt-leb}
-use Rattle.numbers.specs.Numbers.{mostSteps, poolWords, processOf}
+use Rattle.numbers.specs.Numbers.{mostSegments, mostSteps, mostMarks, poolWords}
 use Rattle.numbers.specs.declared.Process.{Process}
 use Rattle.refusals.specs.declared.Refusal.{Refusal}
 use Rattle.refusals.specs.declared.Refusal.the-variants as Refusal
@@ -31,8 +32,9 @@ use Rattle.grid.specs.declared.Answer.{Answer}
 use Rattle.grid.specs.declared.Verdict.{Verdict}
 use Rattle.grid.specs.declared.Verdict.the-variants as Verdict
 use Rattle.grid.specs.Calls.{lengthsFit, namedIn, namedAt, named, advance, answerOf, refusedAs, numbersFit, decided, verdictOf, effect, actOf}
-use Rattle.grid.specs.Inner.{Judged, movedTo}
+use Rattle.grid.specs.Inner.{Judged, changeFits, stageNew, opNew, nextFits, newFits, Told, movedTo}
 use Rattle.grid.proofs.BeginLaws.{not-false}
+use Rattle.grid.proofs.NewLaws.{same-steps, told}
 
 -- arms of matches: what is known of the constructor is known of the value
 pub in-arm : (c d : Check) (r : Process) → c ≡ d → r .0 ≡ namedIn d → r .0 ≡ namedIn c
@@ -56,40 +58,52 @@ next-arm nx d l r e h = rw e h
 pub answer-arm : (nx d : Next) (steps : ℕ) (r : Answer) → nx ≡ d → r ≡ answerOf steps d → r ≡ answerOf steps nx
 answer-arm nx d steps r e h = rw e h
 
--- a change leaves the steps of the lane
-pub same-steps : (ch : Change) (l : Lane) → laneAfter ch l .steps ≡ l .steps
-same-steps Change.Nothing l = refl
-same-steps (Change.Reading i v) l = refl
-same-steps (Change.Link i w) l = refl
-same-steps (Change.Directory k w) l = refl
-same-steps (Change.Mark start n x) l = refl
-same-steps (Change.Marks n) l = refl
-same-steps (Change.Top top n) l = refl
+pub stage-arm : (t u : Stage) (m : ℕ) (r : Bool) → t ≡ u → r ≡ stageNew m u → r ≡ stageNew m t
+stage-arm t u m r e h = rw e h
+
+pub new-arm : (o u : Op) (m : ℕ) (r : Bool) → o ≡ u → r ≡ opNew m u → r ≡ opNew m o
+new-arm o u m r e h = rw e h
+
+module _ (m steps : ℕ) (nx : Next) (o : Op) (e : nx ≡ Next.Going o) where
+  pub goes-more : (r : Bool) → steps < mostSteps → r ≡ opNew m o → r ≡ nextFits m steps nx
+  goes-more r h f = rw e (simp (lt-ltb steps mostSteps h) f)
+
+  pub goes-past : mostSteps ≤ steps → false ≡ nextFits m steps nx
+  goes-past h = rw e (simp (le-ltb steps mostSteps h))
+
+pub marks-few : (z : Sizes) (ch : Change) (n k : ℕ) → ch ≡ Change.Marks n → k ≡ mostMarks (z .m) → leb n k ≡ changeFits z ch
+marks-few z ch n k e f = rw (e, f)
+
+module _ (z : Sizes) (ch : Change) (top n k : ℕ) (e : ch ≡ Change.Top top n) (f : k ≡ poolWords (z .p) (z .m)) where
+  pub top-few : top ≤ k → leb n mostSegments ≡ changeFits z ch
+  top-few h = let u : top ≤ poolWords (z .p) (z .m) = rw f at h in rw e (simp (le-leb _ _ u))
+
+  pub top-many : k < top → false ≡ changeFits z ch
+  top-many h = let u : poolWords (z .p) (z .m) < top = rw f at h in rw e (simp (lt-leb _ _ u))
+
+module _ (z : Sizes) (l : Lane) (ch : Change) (nx : Next) (b : Bool) (e : b ≡ changeFits z ch) where
+  pub change-in : (r : Bool) → b ≡ true → r ≡ nextFits (z .m) (l .steps) nx → r ≡ newFits z l ch nx
+  change-in r h f = simp (sym e ∙ h) f
+
+  pub change-out : b ≡ false → false ≡ newFits z l ch nx
+  change-out h = simp (sym e ∙ h)
 
 pub few-steps : (ch : Change) (l r : Lane) → l .steps ≤ mostSteps → r ≡ laneAfter ch l → r .steps ≤ mostSteps
 few-steps ch l r h e = let k : r .steps ≡ l .steps = ap (λ (x : Lane). x .steps) e ∙ same-steps ch l in omega arith
-
-module _ (z : Sizes) (l : Lane) (ch : Change) (nx : Next) (t k : ℕ) (e : t ≡ topAfter ch (z .top)) (f : k ≡ poolWords (z .p) (z .m)) where
-  pub top-stays : (r : Bool) (l₁ l₂ : Lane) → t ≤ k → l₁ ≡ laneAfter ch l → l₂ ≡ advance nx l₁ → r ≡ laneFits (z .p) (z .m) l₂
-      → r ≡ numbersFit z l ch nx
-  top-stays r l₁ l₂ h g i j =
-      let u : topAfter ch (z .top) ≤ poolWords (z .p) (z .m) = omega arith in
-      let x : l₂ ≡ advance nx (laneAfter ch l) = i ∙ ap (advance nx) g in
-      simp (le-leb _ _ u) (j ∙ ap (laneFits (z .p) (z .m)) x)
-
-  pub top-leaves : k < t → false ≡ numbersFit z l ch nx
-  top-leaves h = let u : poolWords (z .p) (z .m) < topAfter ch (z .top) = omega arith in simp (lt-leb _ _ u)
 
 module _ (z : Sizes) (l : Lane) (t : Turn) where
   pub outside : t ≡ Turn.Outside → Verdict.Refused Refusal.OutOfRange ≡ decided z l t
   outside e = rw e
 
-  module _ (ch : Change) (nx : Next) (e : t ≡ Turn.Turned ch nx) (b : Bool) (f : b ≡ numbersFit z l ch nx) where
+  module _ (ch : Change) (nx : Next) (e : t ≡ Turn.Turned ch nx) (b : Bool) (f : b ≡ newFits z l ch nx) (known : Told z l t) where
+    all : b ≡ numbersFit z l ch nx
+    all = f ∙ known ch nx e
+
     pub stays : b ≡ true → Verdict.Moved ch nx ≡ decided z l t
-    stays h = rw e (simp (sym f ∙ h))
+    stays h = rw e (simp (sym all ∙ h))
 
     pub leaves : b ≡ false → Verdict.Refused Refusal.OutOfRange ≡ decided z l t
-    leaves h = rw e (simp (sym f ∙ h))
+    leaves h = rw e (simp (sym all ∙ h))
 
 module _ (fits : Bool) (z : Sizes) (q : ℕ) (l : Lane) (seen : ℕ) (mem : Memory) where
   pub judged-9 : not fits ≡ true → Verdict.Refused Refusal.OutOfRange ≡ verdictOf fits z q l seen mem
@@ -118,15 +132,15 @@ module _ (fits : Bool) (z : Sizes) (q : ℕ) (l : Lane) (seen : ℕ) (mem : Memo
         unfolding verdictOf
         judged-on t r h e f = simp (fine, fit, lt-ltb _ _ low, sym at ∙ h) (f ∙ ap (decided z l) e)
 
-module _ (fits : Bool) (z : Sizes) (q : ℕ) (l : Lane) (j : Judged fits z q l) (fine : not fits ≡ false) where
+module _ (fits : Bool) (z : Sizes) (q : ℕ) (l : Lane) (seen : ℕ) (j : Judged fits z q l seen) (fine : not fits ≡ false) where
   pub sizes-known : sizesFit (z .p) (z .m) (z .top) ≡ true
   sizes-known = j .sizes (not-false _ fine)
 
   pub lane-known : q < z .p → laneFits (z .p) (z .m) l ≡ true
   lane-known h = j .lane (not-false _ fine) h
 
-  pub steps-known : q < z .p → l .steps ≤ mostSteps
-  steps-known h = lane-ok (z .p) (z .m) l (lane-known h) .steps
+  pub told-known : (mem : Memory) (t : Turn) → q < z .p → t ≡ turnOf z q l seen mem → Told z l t
+  told-known mem t h e = told z l sizes-known (lane-known h) q seen mem t (j .marks (not-false _ fine) h) e
 
 pub moved-is : (l l₁ l₂ : Lane) (top t : ℕ) (ch : Change) (nx : Next) (a : Answer) → l₁ ≡ laneAfter ch l → l₂ ≡ advance nx l₁
     → t ≡ topAfter ch top → a ≡ answerOf (l .steps) nx → record { lane = l₂; top = t; answer = a } ≡ movedTo l top ch nx
@@ -142,7 +156,7 @@ module _ (fits : Bool) (z : Sizes) (q : ℕ) (l : Lane) (seen : ℕ) (mem : Memo
 
 -- a step that moves had a lane in its range
 pub moved-fits : (fits : Bool) (z : Sizes) (q : ℕ) (l : Lane) (seen : ℕ) (mem : Memory) (v : Verdict) (ch : Change) (nx : Next)
-    → Judged fits z q l → v ≡ verdictOf fits z q l seen mem → v ≡ Verdict.Moved ch nx → l .steps ≤ mostSteps
+    → Judged fits z q l seen → v ≡ verdictOf fits z q l seen mem → v ≡ Verdict.Moved ch nx → l .steps ≤ mostSteps
 unfolding verdictOf
 moved-fits fits z q l seen mem v ch nx j e h = by fits refl (lib.Dec.ltb q (z .p)) refl (lengthsFit (z .p) (z .m) mem) refl
   where

@@ -1,4 +1,5 @@
 pub mod OpenLaws
 pub mod BeginLaws
+pub mod NewLaws
 pub mod ActLaws
 pub mod StateLaws

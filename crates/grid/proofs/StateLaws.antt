@@ -11,6 +11,8 @@ use lib.Seq.{set-getD, set-out}
 use borrow.Author.Tests.{lt-ltb, le-ltb, ltb-true, ltb-false}
 use Rattle.numbers.specs.Numbers.{mostProcesses, processOf, placeOf, mostMarks}
 use Rattle.refusals.specs.Orders.{pick}
+use Rattle.refusals.specs.declared.Refusal.{Refusal}
+use Rattle.refusals.specs.declared.Refusal.the-variants as Refusal
 use Rattle.lanes.specs.declared.Check.{Check}
 use Rattle.lanes.specs.declared.Check.the-variants as Check
 use Rattle.lanes.specs.declared.Stage.{Stage}
@@ -19,7 +21,7 @@ use Rattle.lanes.specs.declared.Op.{Op}
 use Rattle.lanes.specs.declared.Op.the-variants as Op
 use Rattle.lanes.specs.declared.Lane.{Lane}
 use Rattle.lanes.specs.declared.State.{State}
-use Rattle.lanes.specs.Ranges.{rest, laneOf, checkFits, stageFits, opFits, sizesFit, stateFits}
+use Rattle.lanes.specs.Ranges.{rest, laneOf, idle, checkFits, stageFits, opFits, sizesFit, stateFits}
 use Rattle.lanes.specs.Laws.{and-right, sized, lane-ok, sizes-of, lane-of}
 use Rattle.lanes.specs.Scan.{Passed, passed-all}
 use Rattle.steps.specs.declared.Next.{Next}
@@ -27,11 +29,12 @@ use Rattle.steps.specs.declared.Next.the-variants as Next
 use Rattle.steps.specs.Memory.{Memory}
 use Rattle.grid.specs.declared.Ask.{Ask}
 use Rattle.grid.specs.declared.Answer.{Answer}
+use Rattle.grid.specs.declared.Answer.the-variants as Answer
 use Rattle.grid.specs.declared.Acted.{Acted}
 use Rattle.grid.specs.declared.Verdict.{Verdict}
 use Rattle.grid.specs.declared.Verdict.the-variants as Verdict
 use Rattle.grid.specs.declared.Stepped.{Stepped}
-use Rattle.grid.specs.Calls.{lengthsFit, refusedAs, answerOf, begunOf, beginOf, verdictOf, settled, sizesOf, namedIn, namedAt, named, seenBy, Effect, effect, effectOf, actOf, Outcome, outcome, stepOf, steppedAs, outcomeAs}
+use Rattle.grid.specs.Calls.{lengthsFit, cellOf, opOf, refusedAs, answerOf, begunOf, beginOf, verdictOf, settled, sizesOf, namedIn, namedAt, named, seenBy, Effect, effect, effectOf, actOf, Outcome, outcome, stepOf, steppedAs, outcomeAs}
 use Rattle.grid.specs.Inner.{laneAt, changes, Judged}
 
 -- past the last lane in use, the state has been looked at
@@ -89,12 +92,6 @@ module _ (s : State) (q k : ℕ) (at : k ≡ laneAt q) (l : Lane) (is : l ≡ la
     is-q : l ≡ laneOf s q
     is-q = is ∙ ap (laneOf s) lane-q
 
-  pub judged-at : (fits : Bool) → fits ≡ stateFits s → Judged fits (sizesOf s) q l
-  judged-at fits e = record {
-    sizes = λ h. sizes-of s (sym e ∙ h);
-    lane = λ h low. let fine : stateFits s ≡ true = sym e ∙ h in rw (is-q fine low) (lane-of s fine q low);
-  }
-
   -- a call on the lane at k comes to the call on process q's lane, where it is the same; else both leave the state
   begun-by : (a : Ask) (x : Bool) → stateFits s ≡ x → (y : Bool) → ltb q (s .p) ≡ y
       → steppedAs s k (begunOf (stateFits s) (s .p) (s .m) (s .top) q l a) ≡ beginOf s q a
@@ -109,6 +106,34 @@ module _ (s : State) (q k : ℕ) (at : k ≡ laneAt q) (l : Lane) (is : l ≡ la
       → steppedAs s k b ≡ beginOf s q a
   begun-is fits a b e f = rw (f, e) (begun-by a (stateFits s) refl (ltb q (s .p)) refl)
 
+  abbrev pub unchanged : Answer → Stepped
+  unchanged a = record { state = s; answer = a }
+
+  -- a refusal leaves the lane and the top as they were
+  refused-is : (b : Acted) (r : Refusal) → b ≡ refusedAs l (s .top) r → unchanged (b .answer) ≡ steppedAs s k b
+  refused-is b r f = rw f (ap (λ (x : List Lane). stepped x) (sym same-lanes))
+    where
+      stepped : List Lane → Stepped
+      stepped x = record { state = record { p = s .p; m = s .m; first = s .first; step = s .step; top = s .top; lanes = x }; answer = Answer.Refused r }
+
+  pub begun-kept : (fits : Bool) (a : Ask) (b : Acted) → b ≡ begunOf fits (s .p) (s .m) (s .top) q l a → changes (b .answer) ≡ false
+      → unchanged (b .answer) ≡ steppedAs s k b
+  unfolding begunOf
+  begun-kept fits a b e h = by fits (ltb q (s .p)) (idle (l .op)) (ltb (cellOf a .0) (s .m)) e
+    where
+      begun : Acted
+      begun = record { lane = record { marks = l .marks; drawn = l .drawn; steps = 0; op = opOf a }; top = s .top; answer = Answer.Begun }
+
+      by : (w x y z : Bool)
+          → b ≡ pick (not w) (refusedAs l (s .top) Refusal.OutOfRange) (pick (not x) (refusedAs l (s .top) Refusal.NoSuchProcess)
+          (pick (not y) (refusedAs l (s .top) Refusal.UnderWay) (pick (not z) (refusedAs l (s .top) Refusal.NoSuchCell) begun)))
+          → unchanged (b .answer) ≡ steppedAs s k b
+      by false x y z f = refused-is b Refusal.OutOfRange f
+      by true false y z f = refused-is b Refusal.NoSuchProcess f
+      by true true false z f = refused-is b Refusal.UnderWay f
+      by true true true false f = refused-is b Refusal.NoSuchCell f
+      by true true true true f = let g : true ≡ false = sym (ap (λ (x : Acted). changes (x .answer)) f) ∙ h in cc
+
   module _ (j : ℕ) (other : Lane) (from : j ≡ laneAt (named (l .op))) (sees : other ≡ laneOf s j) where
     seen-is : stateFits s ≡ true → q < s .p → other .marks ≡ seenBy s q
     seen-is h low =
@@ -121,6 +146,20 @@ module _ (s : State) (q k : ℕ) (at : k ≡ laneAt q) (l : Lane) (is : l ≡ la
         let at′ : j ≡ named (laneOf s q .op) = from ∙ ap laneAt here ∙ simp (lt-ltb (named (laneOf s q .op)) mostProcesses (omega arith)) in
         ap (λ (x : Lane). x .marks) (sees ∙ ap (laneOf s) at′)
 
+    few-marks : stateFits s ≡ true → q < s .p → other .marks ≤ mostMarks (s .m)
+    few-marks h low =
+        let size = sized (s .p) (s .m) (s .top) (sizes-of s h) in
+        let ok = lane-ok (s .p) (s .m) (laneOf s q) (lane-of s h q low) .op in
+        let small = named-of (s .p) (s .m) (laneOf s q .steps) (laneOf s q .op) (size .p-low) ok in
+        rw (seen-is h low) (lane-ok (s .p) (s .m) (laneOf s (named (laneOf s q .op))) (lane-of s h (named (laneOf s q .op)) small) .marks)
+
+    pub judged-at : (fits : Bool) → fits ≡ stateFits s → Judged fits (sizesOf s) q l (other .marks)
+    judged-at fits e = record {
+      sizes = λ h. sizes-of s (sym e ∙ h);
+      lane = λ h low. let fine : stateFits s ≡ true = sym e ∙ h in rw (is-q fine low) (lane-of s fine q low);
+      marks = λ h low. few-marks (sym e ∙ h) low;
+    }
+
     step-by : (mem : Memory) (x : Bool) → stateFits s ≡ x → (y : Bool) → ltb q (s .p) ≡ y → (z : Bool) → lengthsFit (s .p) (s .m) mem ≡ z
         → outcomeAs s k (actOf (stateFits s) (sizesOf s) q l (other .marks) mem) ≡ stepOf s q mem
     unfolding verdictOf
@@ -131,14 +170,10 @@ module _ (s : State) (q k : ℕ) (at : k ≡ laneAt q) (l : Lane) (is : l ≡ la
     step-by mem true h false g false i = simp (h, i) (rw (same-lanes, own-lanes))
     step-by mem false h y g z i = simp h (rw (same-lanes, own-lanes))
 
-    abbrev pub unchanged : Answer → Stepped
-    unchanged a = record { state = s; answer = a }
-
-    -- a refusal leaves the lane and the top as they were
-    kept : (v : Verdict) (mem mem′ : Memory) (b : Acted) → effect b mem′ ≡ effectOf l (s .top) mem v → changes (b .answer) ≡ false
+    pub moved-kept : (v : Verdict) (mem mem′ : Memory) (b : Acted) → effect b mem′ ≡ effectOf l (s .top) mem v → changes (b .answer) ≡ false
         → unchanged (b .answer) ≡ steppedAs s k b
-    kept (Verdict.Refused r) mem mem′ b e h = let f : b ≡ refusedAs l (s .top) r = ap (λ (x : Effect). x .acted) e in rw (f, same-lanes)
-    kept (Verdict.Moved ch nx) mem mem′ b e h =
+    moved-kept (Verdict.Refused r) mem mem′ b e h = refused-is b r (ap (λ (x : Effect). x .acted) e)
+    moved-kept (Verdict.Moved ch nx) mem mem′ b e h =
         let f : b .answer ≡ answerOf (l .steps) nx = ap (λ (x : Effect). x .acted .answer) e in
         let g : true ≡ false = sym (moved-changes (l .steps) nx) ∙ sym (ap changes f) ∙ h in
         cc
@@ -152,4 +187,4 @@ module _ (s : State) (q k : ℕ) (at : k ≡ laneAt q) (l : Lane) (is : l ≡ la
     pub step-kept : (fits : Bool) (mem mem′ : Memory) (b : Acted) → fits ≡ stateFits s
         → effect b mem′ ≡ actOf fits (sizesOf s) q l (other .marks) mem → changes (b .answer) ≡ false → outcome (unchanged (b .answer)) mem′ ≡ stepOf s q mem
     step-kept fits mem mem′ b e f h =
-        ap (λ (x : Stepped). outcome x mem′) (kept (verdictOf fits (sizesOf s) q l (other .marks) mem) mem mem′ b f h) ∙ step-is fits mem mem′ b e f
+        ap (λ (x : Stepped). outcome x mem′) (moved-kept (verdictOf fits (sizesOf s) q l (other .marks) mem) mem mem′ b f h) ∙ step-is fits mem mem′ b e f

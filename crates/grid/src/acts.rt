@@ -3,11 +3,10 @@ ghost use mathlib.Core.Path.{_≡_};
 ghost use mathlib.Core.Bool.{true};
 ghost use Prim.Native.Nat.{_≤_};
 ghost use Rattle.numbers.specs.Numbers.{mostSteps};
-ghost use Rattle.lanes.specs.Ranges.{laneFits};
 ghost use Rattle.steps.specs.Memory.{memory};
 ghost use Rattle.steps.specs.Changes.{laneAfter, topAfter};
-ghost use Rattle.grid.specs.Calls.{namedIn, namedAt, named, advance, answerOf, numbersFit, decided, verdictOf, effect, actOf};
-ghost use Rattle.grid.specs.Inner.{changes, Judged, movedTo};
+ghost use Rattle.grid.specs.Calls.{namedIn, namedAt, named, advance, answerOf, decided, verdictOf, effect, actOf};
+ghost use Rattle.grid.specs.Inner.{changes, Judged, changeFits, stageNew, opNew, nextFits, newFits, Told, movedTo};
 use super::Acted;
 use super::Answer;
 use super::Verdict;
@@ -18,6 +17,8 @@ use lanes::Lane;
 use lanes::Op;
 use lanes::Stage;
 use numbers::Process;
+use numbers::SEGMENTS;
+use numbers::STEPS;
 use refusals::Refusal;
 use steps::Change;
 use steps::Next;
@@ -138,26 +139,85 @@ fn answer_of(steps: u8, next: Next) -> Answer
     }
 }
 
-// Whether the numbers that a step can change stay in their ranges.
-fn numbers_fit(z: Sizes, l: Lane, change: Change, next: Next) -> bool
-    requires { ⌜ l .steps ≤ mostSteps ⌝ }
-    ensures { λ r. ⌜ r ≡ numbersFit z l change next ⌝ }
+fn change_fits(z: Sizes, change: Change) -> bool
+    ensures { λ r. ⌜ r ≡ changeFits z change ⌝ }
 {
-    if (top_after(z.top, change) as usize) <= numbers::pool_words(z.p, z.m) {
-        lanes::lane_fits(z.p, z.m, advance(lane_after(l, change), next))
+    match change {
+        Change::Nothing => true,
+        Change::Reading(_, _) => true,
+        Change::Link(_, _) => true,
+        Change::Directory(_, _) => true,
+        Change::Mark(_, _, _) => true,
+        Change::Marks(n) => n as usize <= numbers::most_marks(z.m),
+        Change::Top(top, n) => {
+            if top as usize <= numbers::pool_words(z.p, z.m) {
+                n as u32 <= SEGMENTS
+            } else {
+                false
+            }
+        }
+    }
+}
+
+fn stage_new(m: u32, t: Stage) -> bool
+    ensures { λ r. ⌜ r ≡ stageNew m t ⌝ }
+{
+    match t {
+        Stage::Store(_) => true,
+        Stage::Check(_) => true,
+        Stage::Draw(_, _, n) => lanes::place_fits(m, n),
+        Stage::Enter(_, _, _, _) => true,
+        Stage::Tombstone(_, _) => true,
+        Stage::Mark(_, n) => lanes::place_fits(m, n),
+        Stage::Force(_, _) => true,
+        Stage::Swap(_, _) => true,
+        Stage::TakeBack(_) => true,
+    }
+}
+
+fn op_new(m: u32, o: Op) -> bool
+    ensures { λ r. ⌜ r ≡ opNew m o ⌝ }
+{
+    match o {
+        Op::Idle => true,
+        Op::Read(_, _) => true,
+        Op::Reading(_) => true,
+        Op::Asked(_, _) => true,
+        Op::Write(_, t) => stage_new(m, t),
+    }
+}
+
+fn next_fits(m: u32, steps: u8, next: Next) -> bool
+    ensures { λ r. ⌜ r ≡ nextFits m steps next ⌝ }
+{
+    match next {
+        Next::Going(o) => { if steps < STEPS { op_new(m, o) } else { false } }
+        Next::Read(_) => true,
+        Next::Written => true,
+        Next::Asked(_) => true,
+    }
+}
+
+// Whether the numbers that a step can put outside their ranges stay there. The new lane is not looked at whole: the step took
+// the rest of it over.
+fn new_fits(z: Sizes, l: Lane, change: Change, next: Next) -> bool
+    ensures { λ r. ⌜ r ≡ newFits z l change next ⌝ }
+{
+    if change_fits(z, change) {
+        next_fits(z.m, l.steps, next)
     } else {
         false
     }
 }
 
 fn decided(z: Sizes, l: Lane, t: Turn) -> Verdict
-    requires { ⌜ l .steps ≤ mostSteps ⌝ }
+    requires { ⌜ Told z l t ⌝ }
     ensures { λ r. ⌜ r ≡ decided z l t ⌝ }
 {
     match t {
         Turn::Outside => Verdict::Refused(Refusal::OutOfRange),
         Turn::Turned(change, next) => {
-            if numbers_fit(z, l, change, next) {
+            if new_fits(z, l, change, next) {
                 Verdict::Moved(change, next)
             } else {
                 Verdict::Refused(Refusal::OutOfRange)
@@ -178,7 +238,7 @@ fn verdict_of(
     directory: &[u32],
     pool: &[u32],
 ) -> Verdict
-    requires { ⌜ Judged fits z (q .0) l ⌝ }
+    requires { ⌜ Judged fits z (q .0) l seen ⌝ }
     ensures { λ r. ⌜ r ≡ verdictOf fits z (q .0) l seen (memory (now (readings .entry)) (now (links .entry)) (now (directory .entry)) (now (pool .entry))) ⌝ }
 {
     if !fits {
@@ -235,7 +295,7 @@ pub fn act(
     directory: &mut [u32],
     pool: &mut [u32],
 ) -> Acted
-    requires { ⌜ Judged fits z (q .0) l ⌝ }
+    requires { ⌜ Judged fits z (q .0) l seen ⌝ }
     ensures { λ r. ⌜ effect r (memory (now (readings .exit)) (now (links .exit)) (now (directory .exit)) (now (pool .exit))) ≡ actOf fits z (q .0) l seen (memory (now (readings .entry)) (now (links .entry)) (now (directory .entry)) (now (pool .entry))) ⌝ }
 {
     let v = verdict_of(fits, z, q, l, seen, readings, links, directory, pool);

@@ -81,7 +81,7 @@ pub fn idle(o: Op) -> bool
     }
 }
 
-fn place_fits(m: u32, n: Place) -> bool
+pub fn place_fits(m: u32, n: Place) -> bool
     ensures { λ r. ⌜ r ≡ placeFits m n ⌝ }
 {
     n.0 as usize <= numbers::most_marks(m)

@@ -6,7 +6,7 @@ use mathlib.Core.Path.{refl, ap, _∙_}
 use borrow.Author.Needs.{needs}
 use Rattle.grid.specs.Inner.{laneAt}
 use Rattle.grid.proofs.StateLaws.{judged-at}
-use Rattle.batch.proofs.BatchLaws.{Going, going-start, going-more, going-end, entries-are}
+use Rattle.batch.proofs.BatchLaws.{Going, going-start, going-more, going-end, going-kept, entries-are}
 use Rattle.batch.proofs.run.Statement.{statement}
 use Rattle.batch.proofs.run.Tie as tie
 
@@ -80,14 +80,10 @@ shared-slice-read-entry-2 c = omega arith
 
 entry-requires : tie.Need-entry-requires Inv-loop μ-loop
 entry-requires c κs =
-    let t = c .before .before .before .before .before .before .before .before .before .before .before .before .before .before .loop .t in
-    judged-at t _ _ (c .before .before .before .before .before .before .before .before .before .before .before .lane-of .ensures .0) _ refl _ (c .before .before .before .before .before .before .before .before .before .before .before .before .before .before .loop .inv .fine)
-
-mul-lane : tie.Need-mul-lane Inv-loop μ-loop
-mul-lane c = omega arith
-
-element-set-from-lane : tie.Need-element-set-from-lane Inv-loop μ-loop
-element-set-from-lane c = omega arith
+    let d = c .before .before .before .before .before .before .before .before in
+    let here = d .before .before .before .before .before .before .loop in
+    let seen = d .lane-of2 .ensures .0 ∙ ap laneAt (d .before .named .ensures) in
+    judged-at (here .t) _ _ (d .before .before .before .lane-of .ensures .0) _ refl _ _ seen refl _ (here .inv .fine)
 
 code-of-requires : tie.Need-code-of-requires Inv-loop μ-loop
 code-of-requires c κs = search needs
@@ -97,17 +93,42 @@ put-requires c κs = search needs
 
 add-i : tie.Need-add-i Inv-loop μ-loop
 add-i c =
-    let m = c .before .before .before .before .before .before .before .before .before .before .before .before .before .before .before .before .before .before .before .before .before .before .before .before .before .before .before .before .before .before .least4 in
-    let low = c .before .before .before .before .before .before .before .before .before .before .before .before .before .before .before .before .before .before .before .before .before .before .before .before .before .before .before .before .loop-test .taken in
+    let m = c .before .before .before .before .before .before .before .before .before .before .before .before .before .before .before .before .before .before .before .before .before .before .before .before .before .before .before .before .before .least4 in
+    let low = c .before .before .before .before .before .before .before .before .before .before .before .before .before .before .before .before .before .before .before .before .before .before .before .before .before .before .before .loop-test .taken in
     omega arith
 
+changes-requires : tie.Need-changes-requires Inv-loop μ-loop
+changes-requires c κs = search needs
+
+mul-lane : tie.Need-mul-lane Inv-loop μ-loop
+mul-lane c = omega (arith, c .before .before .before .before .before .before .before .before .before .before .before .before .before .before .before .before .before .before .before .before .before .before .before .before .before .before .before .before .lane-of .ensures .1)
+
+element-set-from-lane : tie.Need-element-set-from-lane Inv-loop μ-loop
+element-set-from-lane c = omega (arith, c .before .before .before .before .before .before .before .before .before .before .before .before .before .before .before .before .before .before .before .before .before .before .before .before .before .before .before .before .lane-of .ensures .1)
+
 loop-less : tie.Need-loop-less Inv-loop μ-loop
-loop-less c = omega (arith, c .before .before .before .before .before .before .before .before .before .before .before .before .before .before .before .before .before .before .before .before .before .before .before .before .before .before .before .before .loop-test .taken)
+loop-less c = omega (arith, c .before .before .before .before .before .before .before .before .before .before .before .before .before .before .before .before .before .before .before .before .before .before .before .before .before .before .before .before .before .before .loop-test .taken)
 
 loop-again : tie.Need-loop-again Inv-loop μ-loop
 loop-again c =
-    let d = c .before .before .before .before .before .before .before .before .before .before .before .before .before .before .before .before .before .before .before .before .before .before .before .before .before .before .before .before .before in
-    going-more _ _ _ _ _ _ _ _ _ _ _ _ _ _ _ _ _ (d .loop .t) _ (d .loop .inv) _ _ _ _ _ _ _ _ _ (c .before .before .before .before .before .before .before .before .before .before .before .before .before .before .before .before .before .before .before .before .before .before .before .before .before .before .before .before .loop-test .taken) (c .before .before .before .before .before .before .before .before .before .before .before .before .before .before .before .before .before .before .before .before .before .before .before .before .before .before .lane-of .ensures .0) (c .before .before .before .before .before .before .before .before .before .before .before .before .before .before .before .before .before .before .before .before .before .before .before .lane-of2 .ensures .0 ∙ ap laneAt (c .before .before .before .before .before .before .before .before .before .before .before .before .before .before .before .before .before .before .before .before .before .before .before .before .named .ensures)) (c .before .before .before .before .before .before .before .before .before .before .before .before .before .before .entry .ensures) (c .before .before .before .code-of .ensures) (c .before .before .put .ensures) (search needs) (search needs) (search needs) (search needs)
+    let d = c .before .before .before .before .before .before .before .before .before .before .before .before .before .before .before .before .before .before .before .before .before .before .before .before .before in
+    let here = d .before .before .before .before .before .before .loop in
+    let at = d .before .before .before .lane-of .ensures .0 in
+    let from = d .lane-of2 .ensures .0 ∙ ap laneAt (d .before .named .ensures) in
+    let out = c .before .before .before .before .before .before .before .before .before .before .before .before .before .before .before .before .entry .ensures in
+    going-more _ _ _ _ _ _ _ _ _ _ _ _ _ _ _ _ _ (here .t) _ (here .inv) _ _ _ _ _ _ _ _ _ _ refl (d .before .before .before .before .before .loop-test .taken) at from out (c .before .before .before .before .before .before .code-of .ensures) (c .before .before .before .before .before .put .ensures) (search needs) (search needs) (search needs) (search needs)
+
+loop-less-2 : tie.Need-loop-less-2 Inv-loop μ-loop
+loop-less-2 c = omega (arith, c .before .before .before .before .before .before .before .before .before .before .before .before .before .before .before .before .before .before .before .before .before .before .before .before .before .before .before .before .before .loop-test .taken)
+
+loop-again-2 : tie.Need-loop-again-2 Inv-loop μ-loop
+loop-again-2 c =
+    let d = c .before .before .before .before .before .before .before .before .before .before .before .before .before .before .before .before .before .before .before .before .before .before .before .before in
+    let here = d .before .before .before .before .before .before .loop in
+    let at = d .before .before .before .lane-of .ensures .0 in
+    let from = d .lane-of2 .ensures .0 ∙ ap laneAt (d .before .named .ensures) in
+    let out = c .before .before .before .before .before .before .before .before .before .before .before .before .before .before .before .entry .ensures in
+    going-kept _ _ _ _ _ _ _ _ _ _ _ _ _ _ _ _ _ (here .t) _ (here .inv) _ _ _ _ _ _ _ _ _ _ (c .before .changes .ensures) (c .if1 .left) (d .before .before .before .before .before .loop-test .taken) at from out (c .before .before .before .before .before .code-of .ensures) (c .before .before .before .before .put .ensures) (search needs) (search needs) (search needs) (search needs)
 
 same-length : tie.Need-same-length Inv-loop μ-loop
 same-length c = search needs
@@ -154,13 +175,16 @@ run-spec =
     mul-entry
     shared-slice-read-entry-2
     entry-requires
-    mul-lane
-    element-set-from-lane
     code-of-requires
     put-requires
     add-i
+    changes-requires
+    mul-lane
+    element-set-from-lane
     loop-less
     loop-again
+    loop-less-2
+    loop-again-2
     same-length
     same-length-2
     same-length-3

@@ -70,9 +70,11 @@ loop-again c = (omega arith, passed-more (c .before .before .before .before .bef
 act-requires : tie.Need-act-requires Inv-loop μ-loop
 act-requires c κs =
     let d = c .before .before .before .before in
-    let s = d .before .before .before .before .before .before .before .before .before .before .before .before .before .args .s in
-    let fine = loop-end s _ _ _ _ (d .before .before .before .sizes-fit .ensures) (d .before .before .lanes-below .ensures .1) (d .before .loop .inv .0) (d .loop-test .left) (d .before .loop .inv .1) in
-    judged-at s (d .before .before .before .before .before .before .before .before .before .before .before .before .before .args .q .0) _ (d .before .before .before .before .before .before .before .before .lane-of .ensures .0) _ refl _ fine
+    let e = d .before .before .before .before .before in
+    let args = e .before .before .before .before .before .before .before .before .args in
+    let fine = loop-end (args .s) _ _ _ _ (d .before .before .before .sizes-fit .ensures) (d .before .before .lanes-below .ensures .1) (d .before .loop .inv .0) (d .loop-test .left) (d .before .loop .inv .1) in
+    let seen = e .lane-of2 .ensures .0 ∙ ap laneAt (e .before .named .ensures) in
+    judged-at (args .s) (args .q .0) _ (e .before .before .before .lane-of .ensures .0) _ refl _ _ seen refl _ fine
 
 changes-requires : tie.Need-changes-requires Inv-loop μ-loop
 changes-requires c κs = search needs

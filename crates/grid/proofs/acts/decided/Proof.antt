@@ -11,8 +11,8 @@ enum-told c = search needs
 enum-known-t : tie.Need-enum-known-t
 enum-known-t c = search needs
 
-numbers-fit-requires : tie.Need-numbers-fit-requires
-numbers-fit-requires c κs = search needs
+new-fits-requires : tie.Need-new-fits-requires
+new-fits-requires c κs = search needs
 
 returns : tie.Need-returns
 returns c = search (outside)
@@ -25,4 +25,4 @@ returns-3 c = search (leaves)
 
 pub decided-spec : {M : Type 1} → statement M
 decided-spec =
-    tie.close (tie.spec enum-told enum-known-t numbers-fit-requires returns returns-2 returns-3)
+    tie.close (tie.spec enum-told enum-known-t new-fits-requires returns returns-2 returns-3)

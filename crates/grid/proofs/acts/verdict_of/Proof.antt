@@ -1,6 +1,6 @@
 -- `grid::acts::verdict_of` meets its contract.
 -- Assumes nothing.
-use Rattle.grid.proofs.ActLaws.{judged-9, judged-8, judged-4, judged-7, judged-on, sizes-known, lane-known, steps-known}
+use Rattle.grid.proofs.ActLaws.{judged-9, judged-8, judged-4, judged-7, judged-on, sizes-known, lane-known, told-known}
 use borrow.Author.Needs.{needs}
 use Rattle.grid.proofs.acts.verdict_of.Statement.{statement}
 use Rattle.grid.proofs.acts.verdict_of.Tie as tie
@@ -27,7 +27,9 @@ turn-of-requires : tie.Need-turn-of-requires
 turn-of-requires c κs = search (sizes-known, lane-known)
 
 decided-requires : tie.Need-decided-requires
-decided-requires c κs = search (steps-known)
+decided-requires c κs =
+    let top = c .before .before .before .before .before .before .before .before .before .before .before .before .before in
+    told-known _ _ _ _ _ (top .pre) (c .before .before .before .before .before .before .before .before .if1 .left) _ _ (c .before .before .before .if3 .left) (c .turn-of .ensures)
 
 returns-5 : tie.Need-returns-5
 returns-5 c = search (judged-on)
