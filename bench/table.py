@@ -172,9 +172,10 @@ def main():
         for name, a, b in (("one step, its state handed on", count.step_alone, clock.step_alone),
                            ("one step, its state stored back", lambda p: count.step("grid", p), lambda p: clock.step("grid", p))):
             row = [name, str(p), "1", f"{a(p):.0f}", ratio(a(p), count.step("c", p)), ratio(b(p), clock.step("c", p)), "", ""]
-            for s in others:
-                row += [ratio(count.step(s, p), count.step("c", p)), ratio(clock.step(s, p), clock.step("c", p))]
-            rows.append(row)
+            rows.append(row + ["", ""] * len(others))
+        for s in others:
+            row = [f"one step of the {s}", str(p), "1", "", "", "", "", ""]
+            rows.append(row + [ratio(count.step(s, p), count.step("c", p)), ratio(clock.step(s, p), clock.step("c", p))])
     for title, name, m in ROWS:
         for p in PROCESSES:
             a = lambda side: count.operation(name, p, m, side)
@@ -201,6 +202,7 @@ def main():
                                       ["the same, with the caller's that stores it back", f"{looped:.2f}", "0"]])
 
     step = {p: count.step_alone(p) / count.step("c", p) for p in PROCESSES}
+    batch = {p: count.step("batch", p) / count.step("c", p) for p in PROCESSES}
     least = count.opening(65536, "clears") / count.opens(65536)
     all_m = {round(count.opens(int(k[2])), 2) for k in count.stretch if k[0] == "open"}
     targets = [
@@ -208,6 +210,8 @@ def main():
         ("at most two copies of the state in a step", alone <= 2, f"{alone:.2f}"),
         ("a step at most 5 times the machine in C at p = 1", step[1] <= 5, f"{step[1]:.2f}"),
         ("a step at most 3 times the machine in C at p = 16", step[16] <= 3, f"{step[16]:.2f}"),
+        ("a step of the batch at most 2 times the machine in C at p = 1", batch[1] <= 2, f"{batch[1]:.2f}"),
+        ("a step of the batch at most 2 times the machine in C at p = 16", batch[16] <= 2, f"{batch[16]:.2f}"),
         ("open at least 1,000 times cheaper than clearing at m = 65,536", least >= 1000, f"{least:,.0f}"),
         ("open the same at every m", len(all_m) == 1, f"{', '.join(f'{v:.0f}' for v in sorted(all_m))} instructions"),
     ]
@@ -227,7 +231,8 @@ def main():
         print(f"\nwritten: {DOC}, {PLOT}")
     print()
     print(f"figures: state {state} bytes; copies in a step {alone:.2f}; step ÷ C {step[1]:.2f} (p 1), {step[4]:.2f} (p 4), "
-          f"{step[16]:.2f} (p 16); open {count.opens(65536):.0f} instructions; clearing ÷ open {least:,.0f} (m 65,536)")
+          f"{step[16]:.2f} (p 16); batch ÷ C {batch[1]:.2f} (p 1), {batch[4]:.2f} (p 4), {batch[16]:.2f} (p 16); "
+          f"open {count.opens(65536):.0f} instructions; clearing ÷ open {least:,.0f} (m 65,536)")
 
 
 main()
