@@ -30,7 +30,7 @@ import sheets  # noqa: E402
 import vectors  # noqa: E402
 
 BATCH_BYTES = 1_000_000   # vectors sent to one run; a reader may hold 1 MiB
-LINES_A_VECTOR = 6
+LINES_A_VECTOR = 7
 AHEAD = 8                 # inputs made before they are needed, per job
 SECONDS_A_RUN = 120
 

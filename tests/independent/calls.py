@@ -1,4 +1,4 @@
-"""Call vectors: reads them on standard input and prints answer, state and memories after each.
+"""Call vectors: reads them on standard input and prints answer, state, memories and buffer after each.
 
 The format is described in tests/CALLS.md.
 """
@@ -8,9 +8,10 @@ import sys
 from collections import namedtuple
 
 import grid
+import planners
 from state import IDLE, LANES, Lane, Memories, Op, State
 
-CALLS = ("open", "begin", "step", "hour")
+CALLS = ("open", "begin", "step", "hour", "text")
 BEGIN_KINDS = {1: "read", 2: "write", 3: "asked"}
 STAGES = (
     None,
@@ -112,9 +113,17 @@ def vectors_in(data):
 
 # --- The call and what is printed ---------------------------------------------
 
-def call(vector):
-    """The answer and the state after. Memories are changed in place."""
+def page_of(vector):
+    """The buffer lent to the planners' text; other calls are lent none."""
+    room, fill = vector.args[:2] if vector.call == "text" else (0, 0)
+    return Lent(room, fill)
+
+
+def call(vector, page):
+    """The answer and the state after. Memories and buffer are changed in place."""
     a, b, c, d = vector.args
+    if vector.call == "text":
+        return write_text(vector, page)
     if vector.call == "open":
         return grid.open_grid(a, b, c, d, vector.mem)
     if vector.call == "begin":
@@ -124,14 +133,24 @@ def call(vector):
     return grid.hour_summary(vector.state, a, vector.mem)
 
 
+def write_text(vector, page):
+    found = planners.text(vector.state, vector.mem, len(page))
+    if isinstance(found, int):
+        return ("refused", found), vector.state
+    for index, byte in enumerate(found.encode()):
+        page[index] = byte
+    return ("text", len(found)), vector.state
+
+
 def printed(vector):
-    """The six lines of one vector: answer, state, four memories."""
-    answer, after = call(vector)
+    """The seven lines of one vector: answer, state, four memories, buffer."""
+    page = page_of(vector)
+    answer, after = call(vector, page)
     numbers = list(after[:5])
     for lane in after.lanes:
         numbers.extend(lane_words(lane))
     lines = [" ".join(map(str, answer)), " ".join(map(str, numbers))]
-    for name, memory in zip(Memories._fields, vector.mem):
+    for name, memory in zip(Memories._fields + ("buffer",), vector.mem + (page,)):
         pairs = "".join(f" {i}:{w}" for i, w in memory.exceptions())
         lines.append(f"{name} {len(memory)}{pairs}")
     return "\n".join(lines) + "\n"

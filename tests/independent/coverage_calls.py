@@ -7,6 +7,7 @@ import sys
 from collections import Counter
 
 import calls
+import planners
 import vectors
 from made import MOST_LENGTHS
 from state import lengths_fit, state_fits
@@ -24,10 +25,17 @@ GOES = (1, 2, 3, 4, 6, 7, 8, 10, 11, 12, 13, 14, 15, 16, 17, 18, 19, 20)
 NINE = (1, 2, 3, 4, 6, 7, 8, 9, 10, 11, 12, 13, 14, 15, 16, 17, 18, 19, 20)
 REFUSALS = {"open": (1, 2, 3), "begin": (9, 4, 6, 5), "step": (9, 8, 4, 7),
             "hour": (9, 8, 10, 5)}
+HEADER_LINE, LONGEST_LINE = 14, 18  # bytes
+# What a planners' text can show, and the refusals that come before 17.
+TEXTS = ("empty", "one cell", "all cells", "the greatest reading", "a written 0", "exactly long enough", "bytes after the text",
+         "17, one byte short", "17, no room for the header", "a cell of five digits")
+TEXT_REFUSALS = ("9 (state)", "8", "10", "9 (word)")
 EXPECTED = (
     [f"stage {n}: ends" for n in ENDS] + [f"stage {n}: goes on" for n in GOES]
     + [f"stage {n}: 9 (word, draw or new number)" for n in NINE]
     + [f"{call}: refused {n}" for call, numbers in REFUSALS.items() for n in numbers]
+    + [f"text: {what}" for what in TEXTS]
+    + [f"text: {what} with{out} room" for what in TEXT_REFUSALS for out in ("", "out")]
     + ["hour: 9 (word)", "hour: hour", "open: open", "begin: begun",
        "a large grid's step", "a lane at or above p that is not idle", "8 and 4 at once",
        "10 and 5 at once", "6 and 5 at once", "9 (state) and 8 at once", "1 and 3 at once"]
@@ -37,6 +45,8 @@ EXPECTED = (
 def promised(vector):
     """Does the vector keep the limits of tests/CALLS.md?"""
     good = all(number < 2**32 for number in vector.args + vector.state[:5])
+    if vector.call == "text":
+        good &= vector.args[0] <= vectors.MOST_ROOM and vector.args[1] < 2**8
     for lane in vector.state.lanes:
         marks, drawn, steps, stage, cell, value, link, place, start = calls.lane_words(lane)
         flag, start = divmod(start, 2**32)
@@ -55,7 +65,8 @@ def look(vector, seen):
     state, mem, first = vector.state, vector.mem, vector.args[0]
     fits = vector.call != "open" and state_fits(state)
     right = lengths_fit(state.p, state.m, mem)
-    answer, _ = calls.call(vector)
+    page = calls.page_of(vector)
+    answer, _ = calls.call(vector, page)
     name = answer[0]
     in_order = fits and right and (vector.call != "step" or first < state.p
                                    and state.lanes[first].op is not None)
@@ -64,6 +75,8 @@ def look(vector, seen):
         what = {"going": "goes on", "refused": "9 (word, draw or new number)"}.get(name, "ends")
         seen[f"stage {stage}: {what}"] += 1
         seen["a large grid's step"] += state.m > 1_000
+    elif vector.call == "text":
+        look_text(vector, answer, page, fits and right, seen)
     elif vector.call == "hour" and fits and right and answer == ("refused", 9):
         seen["hour: 9 (word)"] += 1
     else:
@@ -73,12 +86,32 @@ def look(vector, seen):
     seen["9 (state) and 8 at once"] += vector.call == "step" and not fits and not right
     if answer == ("refused", 8) and vector.call == "step":
         seen["8 and 4 at once"] += first >= state.p
-    if answer == ("refused", 10):
+    if answer == ("refused", 10) and vector.call == "hour":
         seen["10 and 5 at once"] += first >= state.m // 4
     if answer == ("refused", 6):
         seen["6 and 5 at once"] += vector.args[2] >= state.m
     if answer == ("refused", 1):
         seen["1 and 3 at once"] += not lengths_fit(first, vector.args[1], mem)
+
+
+def look_text(vector, answer, page, in_order, seen):
+    state, room = vector.state, vector.args[0]
+    if answer[0] == "text":
+        lines = bytes(page[i] for i in range(answer[1])).decode().split("\r\n")[1:-1]
+        shows = {"empty": not lines, "one cell": len(lines) == 1, "all cells": len(lines) == state.m > 1,
+                 "the greatest reading": any(line.endswith(f",{2**32 - 1}") for line in lines),
+                 "a written 0": any(line.endswith(",0") for line in lines),
+                 "a cell of five digits": any(line.index(",") == 5 for line in lines),
+                 "exactly long enough": answer[1] == room, "bytes after the text": answer[1] < room}
+    elif answer[1] == 17:
+        needs = len(planners.text(state, vector.mem, 2**32))
+        shows = {"17, one byte short": room == needs - 1, "17, no room for the header": room < HEADER_LINE}
+    else:
+        what = f"9 ({'word' if in_order else 'state'})" if answer[1] == 9 else str(answer[1])
+        shows = {f"{what} with room": room >= HEADER_LINE + LONGEST_LINE * state.m,
+                 f"{what} without room": room < HEADER_LINE}
+    for what, holds in shows.items():
+        seen[f"text: {what}"] += holds
 
 
 def main():

@@ -6,6 +6,7 @@ from state import (IDLE, LANES, LINK_PLACE_HELD, OWNER_HELD, PLACE_HELD, SEGMENT
                    place_of, process_of, segment, size)
 
 MOST_LENGTHS = lengths(16, 65_536)  # of the four memories in a vector
+MOST_LINES = 110  # cells written for a planners' text
 REMEMBERS = ("take", "note", "tomb", "put", "force", "swap")  # hold the link of (a)
 
 
@@ -178,3 +179,23 @@ def settle_cells(rng, state, hour, mem):
                 mem.links[cell] = link_to(r, place)
                 mem.directory[SEGMENTS * r + segment(place)] = start
                 mem.pool[start + offset(place)] = rng.choice((cell, cell, cell, TOMBSTONE))
+
+
+def lay_out(rng, state, mem):
+    """For the planners' text: some cells written, none or all of them too, by one lane whose segments lie one after another."""
+    q, few = rng.randrange(state.p), min(state.m, MOST_LINES)
+    cells = rng.sample(range(state.m), rng.choice((0, 1, few, few, rng.randrange(few + 1))))
+    for place, cell in enumerate(cells):
+        s = segment(place)
+        start = size(s) - 2  # the sizes of the segments below it
+        mem.directory[SEGMENTS * q + s] = start
+        mem.pool[start + offset(place)] = cell
+        mem.links[cell] = link_to(q, place)
+        if rng.random() < 0.3:
+            mem.readings[cell] = rng.choice((0, 2**32 - 1, 10**rng.randrange(10)))
+    if cells and rng.random() < 0.15:  # a word outside the pool
+        pool = len(mem.pool)
+        mem.directory[SEGMENTS * q + segment(len(cells) - 1)] = rng.choice((pool, pool - 1, 2**32 - 1))
+    marks = [len(cells) if r == q else 0 for r in range(state.p)]
+    lanes = [lane._replace(marks=n) for lane, n in zip(state.lanes, marks)]
+    return state._replace(lanes=tuple(lanes) + state.lanes[state.p:])

@@ -57,6 +57,12 @@ FILE_13 = """    if header.m > MOST_CELLS:
 FILE_14 = """    if (len(data) - HEADER) % RECORD != 0:
         raise FileRefused(14)
 """
+TEXT_8 = """    if not lengths_fit(state.p, state.m, mem):
+        return 8
+"""
+TEXT_10 = """    if any(lane.op is not None for lane in state.lanes[:state.p]):
+        return 10
+"""
 CHECK_CALL = "        written, then = check(state, op, mem)\n"
 BACK = 'return ("marks", place), ("written",)'
 
@@ -190,8 +196,17 @@ MUTANTS = [
         "for cell in range(state.m) if", "for cell in reversed(range(state.m)) if"),
     one("text: LF for CRLF", PLANNERS, "planners.py", 'LINE_END = "\\r\\n"', 'LINE_END = "\\n"'),
     one("text: no header", PLANNERS, "planners.py", "rows = [HEADER] + [", "rows = ["),
-    one("text: given while an operation is under way", PLANNERS, "planners.py",
-        "    if any(lane.op is not None for lane in state.lanes[:state.p]):\n        return 10\n", ""),
+    one("text: given while an operation is under way", PLANNERS + CALLS, "planners.py", TEXT_10, ""),
+    exchanged("text: 8 and 10 exchanged", CALLS, "planners.py", TEXT_8, TEXT_10),
+    one("text: 17 before 9 (word)", CALLS, "planners.py",
+        "    except grid.Outside:\n        return 9", "    except grid.Outside:\n        return 9 if room else 17"),
+    one("text: 17 where it just fits", CALLS, "planners.py", "if len(lines) > room:", "if len(lines) >= room:"),
+    one("text: one byte short is taken for enough", CALLS, "planners.py",
+        "if len(lines) > room:", "if len(lines) > room + 1:"),
+    one("text: the header counts for no room", CALLS, "planners.py",
+        "if len(lines) > room:", "if len(lines) - 14 > room:"),
+    one("text: the bytes after it cleared", CALLS, "calls.py",
+        "enumerate(found.encode()):", "enumerate(found.encode().ljust(len(page), bytes(1))):"),
     one("text: a cell's reading by the filling rule", PLANNERS, "planners.py",
         "(cell, mem.readings[cell])", "(cell, (state.first + state.step * cell) % 2**32)"),
 ]

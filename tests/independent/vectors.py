@@ -6,13 +6,15 @@ import sys
 
 import calls
 import grid
+import planners
 from calls import Lent, Vector
-from made import MOST_LENGTHS, a_state, a_word, aim, memories, settle_cells, sizes, u32
+from made import MOST_LENGTHS, a_state, a_word, aim, lay_out, memories, settle_cells, sizes, u32
 from state import (CLOSED, LANES, PLACE_HELD, Memories, lengths, link_to, place_of, process_of,
                    with_lane)
 
 FIXED_SEED = 20_260_102
 BLOCK = 20  # vectors made from one random stream
+MOST_ROOM = 4_096  # bytes of a buffer that the planners' text is lent
 NUMBER_OF = {kind: number for number, kind in calls.BEGIN_KINDS.items()}
 
 
@@ -133,6 +135,25 @@ def hour_vector(rng):
     return Vector("hour", (hour, 0, 0, 0), state, mem)
 
 
+def text_vector(rng):
+    """The planners' text, with room for it, with just enough or with too little."""
+    p, m = rng.choice((1, 1, 2, 3, 16)), rng.choice((1, 2, 3, 4, 8, 11, 12, 101))
+    if rng.random() < 0.01:
+        m = rng.choice((2_040, 65_536))
+    state, q = a_state(rng, p, m, busy=rng.choice((0, 0, 0, 0, 0, 0.3)))
+    mem = memories(rng, p, m, state)
+    if rng.random() < 0.9:
+        state = lay_out(rng, state, mem)
+    if rng.random() < 0.4:
+        state, mem = spoil(rng, state, mem, q)
+    found = planners.text(state, mem, MOST_ROOM)
+    rooms = 0, 13, 14, MOST_ROOM
+    if isinstance(found, str):
+        n = len(found)
+        rooms = (n,) * 4 + (n - 1,) * 4 + (n + 1, n + 30, n // 2) + rooms
+    return Vector("text", (rng.choice(rooms), rng.choice((0, 10, 44, 255)), 0, 0), state, mem)
+
+
 def run_vectors(rng, count):
     """Successive calls of one run from open: each old word of its own."""
     p, m = rng.choice((1, 2, 2, 3)), rng.choice((2, 3, 4, 8))
@@ -149,7 +170,7 @@ def run_vectors(rng, count):
         if at >= skip:
             copy = Memories(*(Lent(len(x), x.fill, x.words) for x in mem))
             yield vector._replace(mem=copy)
-        _, state = calls.call(vector)
+        _, state = calls.call(vector, calls.page_of(vector))
 
 
 def block(seed, number):
@@ -166,6 +187,8 @@ def block(seed, number):
             yield begin_vector(rng)
         elif shape < 0.34:
             yield hour_vector(rng)
+        elif shape < 0.42:
+            yield text_vector(rng)
         else:
             yield step_vector(rng, 1 + (BLOCK * number + k) % 21)
 

@@ -5,6 +5,7 @@ mod make;
 mod memories;
 mod nine;
 mod out;
+mod page;
 mod run;
 mod show;
 mod vector;

@@ -1,4 +1,4 @@
-// The call itself, through the public functions of the grid and of the hour summary.
+// The call itself, through the public functions of the grid, of the hour summary and of the planners' text.
 use super::show::Said;
 use super::words;
 use super::words::low32;
@@ -7,6 +7,7 @@ use grid::Opening;
 use lanes::State;
 use numbers::Cell;
 use numbers::Process;
+use planners_text::Wrote;
 use summary::Summary;
 
 // The state after a call, and what was answered.
@@ -115,7 +116,28 @@ fn hour(
     }
 }
 
-// call: 0 open, 1 begin, 2 step, 3 hour summary.
+fn text(
+    s: State,
+    readings: &[u32],
+    links: &[u64],
+    directory: &[u32],
+    pool: &[u32],
+    page: &mut [u8],
+) -> Made {
+    let a = planners_text::write_text(s, readings, links, directory, pool, page);
+    match a {
+        Wrote::Bytes(n) => Made {
+            state: s,
+            said: Said::Text(n),
+        },
+        Wrote::Refused(r) => Made {
+            state: s,
+            said: Said::Refused(r),
+        },
+    }
+}
+
+// call: 0 open, 1 begin, 2 step, 3 hour summary, 4 planners' text.
 pub fn make(
     input: &[u64],
     base: usize,
@@ -124,6 +146,7 @@ pub fn make(
     links: &mut [u64],
     directory: &mut [u32],
     pool: &mut [u32],
+    page: &mut [u8],
 ) -> Made {
     let call = words::at(input, base, 0);
     if call == 0 {
@@ -135,5 +158,8 @@ pub fn make(
     if call == 2 {
         return step(input, base, s, readings, links, directory, pool);
     }
-    hour(input, base, s, readings, links, directory, pool)
+    if call == 3 {
+        return hour(input, base, s, readings, links, directory, pool);
+    }
+    text(s, readings, links, directory, pool, page)
 }

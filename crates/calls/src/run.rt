@@ -7,9 +7,11 @@ use super::make;
 use super::make::Made;
 use super::memories::least;
 use super::out;
+use super::page;
 use super::show;
 use super::vector;
 use super::vector::Fault;
+use super::vector::PAGE;
 
 // How a vector went: the word after it and the end of the output, or why it is damaged.
 pub enum Went {
@@ -17,28 +19,31 @@ pub enum Went {
     Damaged(Fault),
 }
 
-// The six lines of a call.
-fn shown(
+// The lines of the four memories.
+fn memories(
     buf: &mut [u8],
     at: usize,
-    made: Made,
     as_lent: Memories,
     readings: &[u32],
     links: &[u64],
     directory: &[u32],
     pool: &[u32],
 ) -> usize {
-    let s = made.state;
-    let said = made.said;
-    let e = show::answer(buf, at, said);
-    let e = show::state(buf, e, s);
-    let e = show::memory32(buf, e, b"readings", readings, as_lent.readings.fill);
+    let e = show::memory32(buf, at, b"readings", readings, as_lent.readings.fill);
     let e = show::memory64(buf, e, b"links", links, as_lent.links.fill);
     let e = show::memory32(buf, e, b"directory", directory, as_lent.directory.fill);
     show::memory32(buf, e, b"pool", pool, as_lent.pool.fill)
 }
 
-// The call on memories that have their lengths, and its lines.
+// The answer and the state after it.
+fn answered(buf: &mut [u8], at: usize, made: Made) -> usize {
+    let s = made.state;
+    let said = made.said;
+    let e = show::answer(buf, at, said);
+    show::state(buf, e, s)
+}
+
+// The call on memories that have their lengths, and its seven lines.
 fn called(
     input: &[u64],
     base: usize,
@@ -47,15 +52,18 @@ fn called(
     links: &mut [u64],
     directory: &mut [u32],
     pool: &mut [u32],
+    page: &mut [u8],
     buf: &mut [u8],
     at: usize,
 ) -> usize {
     let s = vector::state_of(input, base);
-    let made = make::make(input, base, s, readings, links, directory, pool);
-    shown(buf, at, made, as_lent, readings, links, directory, pool)
+    let made = make::make(input, base, s, readings, links, directory, pool, page);
+    let e = answered(buf, at, made);
+    let e = memories(buf, e, as_lent, readings, links, directory, pool);
+    show::memory8(buf, e, b"buffer", page, page::fill(input, base) as u64)
 }
 
-// The call on the parts of the memories that were lent.
+// The call on the parts of the memories that were lent, and on a buffer.
 fn on_parts(
     input: &[u64],
     base: usize,
@@ -71,6 +79,9 @@ fn on_parts(
     let l = least(as_lent.links.len, links.len());
     let d = least(as_lent.directory.len, directory.len());
     let p = least(as_lent.pool.len, pool.len());
+    let fill = page::fill(input, base);
+    let mut page = [fill; PAGE];
+    let n = page::room(input, base);
     called(
         input,
         base,
@@ -79,6 +90,7 @@ fn on_parts(
         &mut links[..l],
         &mut directory[..d],
         &mut pool[..p],
+        &mut page[..n],
         buf,
         at,
     )
@@ -160,7 +172,7 @@ fn settled(buf: &mut [u8], at: usize, k: u64, base: usize, end: usize, went: Wen
     }
 }
 
-// Every vector's six lines, or those up to the first damaged one and then why. `end` is past the input's words where its last one is cut.
+// Every vector's seven lines, or those up to the first damaged one and then why. `end` is past the input's words where its last one is cut.
 pub fn all(
     input: &[u64],
     end: usize,

@@ -1,4 +1,4 @@
-// What a call gave back, in six lines: the answer, the state, the four memories.
+// What a call gave back, in seven lines: the answer, the state, the four memories, the buffer.
 use super::nine;
 use super::nine::Nine;
 use super::out;
@@ -13,6 +13,7 @@ pub enum Said {
     Opened,
     Told(Answer),
     Hour(Hour),
+    Text(usize),
     Refused(Refusal),
 }
 
@@ -60,6 +61,10 @@ fn words_of(buf: &mut [u8], at: usize, a: Said) -> usize {
             let e = out::bytes(buf, at, b"hour");
             two(buf, e, h.peak as u64, h.mean as u64)
         }
+        Said::Text(n) => {
+            let e = out::bytes(buf, at, b"text");
+            out::next_number(buf, e, n as u64)
+        }
         Said::Refused(r) => refused(buf, at, r),
     }
 }
@@ -102,6 +107,10 @@ fn wide(w: u32) -> u64 {
     w as u64
 }
 
+fn wide8(w: u8) -> u64 {
+    w as u64
+}
+
 // Word i, where it differs from the fill.
 fn word(buf: &mut [u8], at: usize, i: usize, w: u64, fill: u64) -> usize {
     if w == fill {
@@ -129,6 +138,17 @@ pub fn memory64(buf: &mut [u8], at: usize, name: &[u8], memory: &[u64], fill: u6
     let mut i: usize = 0;
     while i < memory.len() {
         e = word(buf, e, i, memory[i], fill);
+        i = i + 1;
+    }
+    out::newline(buf, e)
+}
+
+pub fn memory8(buf: &mut [u8], at: usize, name: &[u8], memory: &[u8], fill: u64) -> usize {
+    let e = out::bytes(buf, at, name);
+    let mut e = out::next_number(buf, e, memory.len() as u64);
+    let mut i: usize = 0;
+    while i < memory.len() {
+        e = word(buf, e, i, wide8(memory[i]), fill);
         i = i + 1;
     }
     out::newline(buf, e)

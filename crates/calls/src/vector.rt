@@ -19,7 +19,7 @@ pub enum Fault {
     Number,
     // no such stage
     Stage,
-    // a memory is longer than the largest grid's
+    // a memory is longer than the largest grid's, or a buffer than a page
     Length,
     // an index does not rise, or is past its memory's length
     Index,
@@ -32,6 +32,11 @@ pub enum Seen {
 }
 
 pub const WORDS: usize = 154;
+
+// The number of the planners' text among the calls, which is the last, and the longest buffer that it may be lent.
+pub const TEXT: u64 = 4;
+
+pub const PAGE: usize = 4096;
 
 pub const LIMIT32: u64 = 4294967296;
 
@@ -95,7 +100,7 @@ fn numbers_seen(input: &[u64], base: usize) -> Seen {
 }
 
 fn call_seen(call: u64, kind: u64) -> Seen {
-    if 3 < call {
+    if TEXT < call {
         return Seen::Damaged(Fault::Call);
     }
     if call == 1 {
@@ -106,10 +111,31 @@ fn call_seen(call: u64, kind: u64) -> Seen {
     Seen::Fine
 }
 
+// What the planners' text is lent: a buffer's length and its fill.
+fn page_seen(call: u64, room: u64, fill: u64) -> Seen {
+    if call == TEXT {
+        if (PAGE as u64) < room {
+            return Seen::Damaged(Fault::Length);
+        }
+        if LIMIT8 <= fill {
+            return Seen::Damaged(Fault::Number);
+        }
+    }
+    Seen::Fine
+}
+
 pub fn head_seen(input: &[u64], base: usize) -> Seen {
     let call = call_seen(words::at(input, base, 0), words::at(input, base, 2));
     let Seen::Fine = call else {
         return call;
+    };
+    let page = page_seen(
+        words::at(input, base, 0),
+        words::at(input, base, 1),
+        words::at(input, base, 2),
+    );
+    let Seen::Fine = page else {
+        return page;
     };
     let numbers = numbers_seen(input, base);
     let Seen::Fine = numbers else {

@@ -18,6 +18,12 @@ least-requires-3 c κs = search needs
 least-requires-4 : tie.Need-least-requires-4
 least-requires-4 c κs = search needs
 
+fill-requires : tie.Need-fill-requires
+fill-requires c κs = search needs
+
+room-requires : tie.Need-room-requires
+room-requires c κs = search needs
+
 slice-relend-prefix-called : tie.Need-slice-relend-prefix-called
 slice-relend-prefix-called c = search needs
 
@@ -41,6 +47,12 @@ slice-relend-prefix-called-4 c = search needs
 
 slice-aggregate-called-4 : tie.Need-slice-aggregate-called-4
 slice-aggregate-called-4 c = sym (length-take-le _ _ (search needs))
+
+array-borrow-prefix-page : tie.Need-array-borrow-prefix-page
+array-borrow-prefix-page c = search needs
+
+slice-aggregate-called-5 : tie.Need-slice-aggregate-called-5
+slice-aggregate-called-5 c = sym (length-take-le _ _ (search needs))
 
 called-requires : tie.Need-called-requires
 called-requires c κs = search needs
@@ -71,6 +83,8 @@ on-parts-spec =
     least-requires-2
     least-requires-3
     least-requires-4
+    fill-requires
+    room-requires
     slice-relend-prefix-called
     slice-aggregate-called
     slice-relend-prefix-called-2
@@ -79,6 +93,8 @@ on-parts-spec =
     slice-aggregate-called-3
     slice-relend-prefix-called-4
     slice-aggregate-called-4
+    array-borrow-prefix-page
+    slice-aggregate-called-5
     called-requires
     same-length
     same-length-2
