@@ -1,0 +1,106 @@
+-- Each case of writing a file, as a law of its definition.
+-- Assumes nothing.
+use mathlib.Core.Path.{_≡_, refl, sym, ap, _∙_}
+use mathlib.Core.Bool.{Bool, true, false, not}
+use mathlib.Core.List.{List, _++_}
+use Prim.Native.Nat.{ℕ, _+_, _*_, _<_, _≤_}
+use native.Mathlib.Omega.{arith}
+use lib.Dec.{leb, ltb}
+use lib.ListN.{length, getD}
+use borrow.Author.Tests.{lt-ltb, le-ltb, le-leb, lt-leb, not-true, not-false}
+use Rattle.numbers.specs.Numbers.{mostProcesses, mostCells}
+use Rattle.refusals.specs.declared.Refusal.{Refusal}
+use Rattle.refusals.specs.declared.Refusal.the-variants as Refusal
+use Rattle.qhs.specs.declared.Header.{Header}
+use Rattle.qhs.specs.Qhs.{headerBytes, recordBytes, mostBytes, mostFileCells, mostKind, each}
+use Rattle.qhs.specs.Laws.{each-more, each-fails}
+use Rattle.text.specs.Text.{splice}
+use Rattle.qhs_writer.specs.declared.Wrote.{Wrote}
+use Rattle.qhs_writer.specs.declared.Wrote.the-variants as Wrote
+use Rattle.qhs_writer.specs.Writer.{Fields, count, headBytes, entriesBelow, fileOf, known, page, writeOf}
+use Rattle.qhs_writer.specs.Inner.{Laid}
+use Rattle.qhs_writer.specs.Sizes.{file-length}
+use Rattle.qhs_writer.proofs.LaidLaws.{laid-then}
+
+-- ---- the kinds of the first records
+
+abbrev pub Known : List ℕ → ℕ → Type 0
+Known kinds k = each k (known kinds) ≡ true
+
+pub known-none : (kinds : List ℕ) → Known kinds 0
+unfolding each
+known-none kinds = refl
+
+module _ (kinds : List ℕ) (k : ℕ) where
+  pub known-next : Known kinds k → getD kinds k 0 ≤ mostKind → Known kinds (k + 1)
+  known-next h low = each-more k (known kinds) h (le-leb _ _ low)
+
+  pub known-not : (n : ℕ) → k < n → mostKind < getD kinds k 0 → false ≡ each n (known kinds)
+  known-not n h high = sym (each-fails n k (known kinds) h (lt-leb _ _ high))
+
+  pub known-all : (n : ℕ) → Known kinds k → k ≤ n → n ≤ k → true ≡ each n (known kinds)
+  known-all n h low high = let e : k ≡ n = omega arith in sym (rw e at h)
+
+-- ---- the refusals, and the file
+
+module _ (h : Header) (f : Fields) (out : List ℕ) (n : ℕ) (is : n ≡ count f) where
+  long : length (fileOf h f) ≡ headerBytes + recordBytes * n
+  long = file-length h f ∙ rw is
+
+  pub too-long : 8189 < n → page (Wrote.Refused Refusal.FileTooLong) out ≡ writeOf h f out
+  unfolding writeOf
+  too-long g = simp (lt-ltb mostBytes (length (fileOf h f)) (omega (arith, long)))
+
+  module _ (fits : n ≤ 8189) where
+    short : ltb mostBytes (length (fileOf h f)) ≡ false
+    short = le-ltb mostBytes (length (fileOf h f)) (omega (arith, long))
+
+    pub many-cells : mostFileCells < h .m → page (Wrote.Refused Refusal.TooManyCells) out ≡ writeOf h f out
+    unfolding writeOf
+    many-cells g = simp (short, lt-ltb _ _ g)
+
+    module _ (few : h .m ≤ mostFileCells) (b : Bool) (eb : b ≡ each n (known (f .kinds))) where
+      all-known : b ≡ each (count f) (known (f .kinds))
+      all-known = eb ∙ rw is
+
+      pub unknown-kind : not b ≡ true → page (Wrote.Refused Refusal.RecordKind) out ≡ writeOf h f out
+      unfolding writeOf
+      unknown-kind g = simp (short, le-ltb _ _ few, sym all-known ∙ not-true b g)
+
+      module _ (kinds : not b ≡ false) where
+        fine : each (count f) (known (f .kinds)) ≡ true
+        fine = sym all-known ∙ not-false b kinds
+
+        pub no-process : h .p < 1 → page (Wrote.Refused Refusal.ProcessCount) out ≡ writeOf h f out
+        unfolding writeOf
+        no-process g = simp (short, le-ltb _ _ few, fine, lt-leb _ _ g)
+
+        module _ (p-low : 1 ≤ h .p) where
+          pub many-processes : mostProcesses < h .p → page (Wrote.Refused Refusal.ProcessCount) out ≡ writeOf h f out
+          unfolding writeOf
+          many-processes g = simp (short, le-ltb _ _ few, fine, le-leb _ _ p-low, lt-leb _ _ g)
+
+          module _ (p-high : h .p ≤ mostProcesses) where
+            pub no-cell : h .m < 1 → page (Wrote.Refused Refusal.CellCount) out ≡ writeOf h f out
+            unfolding writeOf
+            no-cell g = simp (short, le-ltb _ _ few, fine, le-leb _ _ p-low, le-leb _ _ p-high, lt-leb _ _ g)
+
+            module _ (m-low : 1 ≤ h .m) where
+              m-high : leb (h .m) mostCells ≡ true
+              m-high = le-leb (h .m) mostCells (omega arith)
+
+              pub no-room : length out < headerBytes + recordBytes * n → page (Wrote.Refused Refusal.NoRoom) out ≡ writeOf h f out
+              unfolding writeOf
+              no-room g =
+                  simp (short, le-ltb _ _ few, fine, le-leb _ _ p-low, le-leb _ _ p-high, le-leb _ _ m-low, m-high, lt-ltb (length out) (length (fileOf h f)) (omega (arith, long)))
+
+              pub written : (o o′ : List ℕ) (a b : ℕ) → headerBytes + recordBytes * n ≤ length out → Laid out 0 headerBytes (headBytes h) o a
+                  → Laid o a (recordBytes * n) (entriesBelow f n) o′ b → page (Wrote.Bytes b) o′ ≡ writeOf h f out
+              unfolding writeOf fileOf
+              written o o′ a b g l k =
+                  let all = laid-then out o o′ (headBytes h) (entriesBelow f n) 0 headerBytes (recordBytes * n) a b (omega arith) l k in
+                  let whole : fileOf h f ≡ headBytes h ++ entriesBelow f n = rw is in
+                  let ends : b ≡ length (fileOf h f) = omega (arith, all .ends, long) in
+                  let shows : o′ ≡ splice out 0 (fileOf h f) = all .shows ∙ rw whole in
+                  simp (short, le-ltb _ _ few, fine, le-leb _ _ p-low, le-leb _ _ p-high, le-leb _ _ m-low, m-high, le-ltb (length out) (length (fileOf h f)) (omega (arith, long)))
+                  (rw (ends, shows))

@@ -1,0 +1,3 @@
+pub mod Writer
+pub mod Inner
+pub mod Sizes

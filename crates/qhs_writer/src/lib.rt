@@ -1,0 +1,101 @@
+// The schedule file's writer, version 1: a header and records as bytes in a lent buffer, or the refusal.
+ghost use mathlib.Core.Path.{_≡_};
+ghost use Prim.Native.Nat.{_≤_, min};
+ghost use lib.ListN.{length};
+ghost use Rattle.qhs.specs.Qhs.{each};
+ghost use Rattle.qhs_writer.specs.Writer.{fields, count, known, page, writeOf};
+
+mod put;
+
+use numbers::PROCESSES;
+use qhs::FILE_CELLS;
+use qhs::HEADER_BYTES;
+use qhs::Header;
+use qhs::LAST_KIND;
+use qhs::RECORD_BYTES;
+use refusals::Refusal;
+
+// A record as it is written. Its cell has 16 bits, whatever the reader's has.
+pub struct Entry {
+    pub kind: u8,
+    pub process: u8,
+    pub cell: u16,
+    pub value: u32,
+}
+
+// How many bytes were written, or why none was.
+pub enum Wrote {
+    Bytes(usize),
+    Refused(Refusal),
+}
+
+// The records that a file of 65,536 bytes has.
+pub const FILE_RECORDS: usize = 8189;
+
+fn least(a: usize, b: usize) -> usize
+    ensures { λ r. ⌜ r ≡ min a b ⌝ }
+{
+    if a < b { a } else { b }
+}
+
+// As many records as the shortest slice has.
+fn count(kinds: &[u8], processes: &[u8], cells: &[u16], values: &[u32]) -> usize
+    ensures { λ r. ⌜ r ≡ count (fields (now (kinds .entry)) (now (processes .entry)) (now (cells .entry)) (now (values .entry))) ⌝ }
+{
+    let ends = least(cells.len(), values.len());
+    least(kinds.len(), least(processes.len(), ends))
+}
+
+// Whether the first n kinds are known.
+fn known(kinds: &[u8], n: usize) -> bool
+    requires { ⌜ n ≤ length (now kinds) ⌝ }
+    ensures { λ r. ⌜ r ≡ each n (known (now (kinds .entry))) ⌝ }
+{
+    let mut k: usize = 0;
+    while k < n {
+        if LAST_KIND < kinds[k] {
+            return false;
+        }
+        k = k + 1;
+    }
+    true
+}
+
+// Writes the file of a header and records, which are handed in as a slice for each field. Fields that a kind doesn't need are put
+// to zero. A refusal writes nothing.
+pub fn write(
+    h: Header,
+    kinds: &[u8],
+    processes: &[u8],
+    cells: &[u16],
+    values: &[u32],
+    out: &mut [u8],
+) -> Wrote
+    ensures { λ r. ⌜ page r (now (out .exit)) ≡ writeOf h (fields (now (kinds .entry)) (now (processes .entry)) (now (cells .entry)) (now (values .entry))) (now (out .entry)) ⌝ }
+{
+    let n = count(kinds, processes, cells, values);
+    if FILE_RECORDS < n {
+        return Wrote::Refused(Refusal::FileTooLong);
+    }
+    if FILE_CELLS < h.m {
+        return Wrote::Refused(Refusal::TooManyCells);
+    }
+    if !known(kinds, n) {
+        return Wrote::Refused(Refusal::RecordKind);
+    }
+    if h.p < 1 {
+        return Wrote::Refused(Refusal::ProcessCount);
+    }
+    if PROCESSES < h.p {
+        return Wrote::Refused(Refusal::ProcessCount);
+    }
+    if h.m < 1 {
+        return Wrote::Refused(Refusal::CellCount);
+    }
+    if out.len() < HEADER_BYTES + RECORD_BYTES * n {
+        return Wrote::Refused(Refusal::NoRoom);
+    }
+    let start = put::header(h, out);
+    let end = put::entries(kinds, processes, cells, values, n, start, out);
+    Wrote::Bytes(end)
+}
