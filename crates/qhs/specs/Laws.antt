@@ -13,11 +13,12 @@ use lib.Seq.{getD-drop}
 use lib.Dec.{leb}
 use borrow.Author.Tests.{ltb-false, leb-true, eqb-true, not-false}
 use Rattle.numbers.specs.Numbers.{mostProcesses, mostCells}
-use Rattle.refusals.specs.Orders.{Rule, orders, pick}
+use Rattle.refusals.specs.Laws.{past}
+use Rattle.refusals.specs.declared.Refusal.{Refusal}
 use Rattle.qhs.specs.declared.Header.{Header}
 use Rattle.qhs.specs.declared.Reading.{Reading}
 use Rattle.qhs.specs.declared.Reading.the-variants as Reading
-use Rattle.qhs.specs.Qhs.{headerBytes, recordBytes, mostBytes, mostFileCells, mostKind, byteAt, numberAt, marked, headerOf, recordAt}
+use Rattle.qhs.specs.Qhs.{headerBytes, recordBytes, mostBytes, mostFileCells, mostKind, version, byteAt, numberAt, marked, versionOf, headerOf, recordAt}
 use Rattle.qhs.specs.Qhs.{bodyBytes, recordsIn, each, kindFits, kindsFit, fileRefusals, readOf}
 
 -- Every byte is below 256.
@@ -61,11 +62,11 @@ number-past s at (suc width) h =
 
 -- ---- each record
 
-and-left : (a b : Bool) → (a && b) ≡ true → a ≡ true
+pub and-left : (a b : Bool) → (a && b) ≡ true → a ≡ true
 and-left true b h = refl
 and-left false b h = h
 
-and-right : (a b : Bool) → (a && b) ≡ true → b ≡ true
+pub and-right : (a b : Bool) → (a && b) ≡ true → b ≡ true
 and-right true b h = h
 and-right false b h = let z : false ≡ true = h in cc
 
@@ -83,6 +84,11 @@ each-at (suc n) i f h x =
     (λ (e : i < n). each-at n i f e (and-left (each n f) (f n) x))
     (eq-or-lt-of-le (omega arith))
 
+pub each-all : (n : ℕ) (g : ℕ → Bool) → ((k : ℕ) → k < n → g k ≡ true) → each n g ≡ true
+unfolding each
+each-all zero g h = refl
+each-all (suc n) g h = simp (each-all n g (λ k l. h k (omega arith)), h n (omega arith))
+
 pub each-more : (i : ℕ) (f : ℕ → Bool) → each i f ≡ true → f i ≡ true → each (i + 1) f ≡ true
 unfolding each
 each-more i f h k = rw (add-one i) (simp (h, k))
@@ -98,31 +104,18 @@ each-fails (suc n) i f h x =
 
 -- ---- a file that was read
 
--- No refusal of an order holds.
-abbrev None : List Rule → Type 0
-None [] = Unit {0}
-None (r ∷ rs) = (r .when ≡ false) × None rs
+refused-not : (r : Refusal) (d : Header) (n : ℕ) → Reading.Refused r ≡ Reading.Schedule d n → ⊥
+refused-not r d n h = let z : _≡_ {A = ℕ} 0 1 = cc in omega arith
 
-past : (rules : List Rule) (d e : Header) (n k : ℕ) → orders Reading.Refused rules (Reading.Schedule e k) ≡ Reading.Schedule d n
-    → None rules × ((d ≡ e) × (n ≡ k))
-past [] d e n k h = (tt, (cc, cc))
-past (r ∷ rs) d e n k h = by (λ y. past rs d e n k y) (r .when) refl h
-  where
-    Later : Type 0
-    Later = orders Reading.Refused rs (Reading.Schedule e k) ≡ Reading.Schedule d n → None rs × ((d ≡ e) × (n ≡ k))
-
-    by : Later → (b : Bool) → r .when ≡ b → pick b (Reading.Refused (r .gives)) (orders Reading.Refused rs (Reading.Schedule e k)) ≡ Reading.Schedule d n
-        → None (r ∷ rs) × ((d ≡ e) × (n ≡ k))
-    by later true x y = absurd (let z : _≡_ {A = ℕ} 0 1 = cc in omega arith)
-    by later false x y = let p = later y in ((x, p .0), p .1)
-
-within : (x high : ℕ) → not (leb 1 x && leb x high) ≡ false → (1 ≤ x) × (x ≤ high)
+pub within : (x high : ℕ) → not (leb 1 x && leb x high) ≡ false → (1 ≤ x) × (x ≤ high)
 within x high h =
     let both = not-false (leb 1 x && leb x high) h in
     (leb-true 1 x (and-left (leb 1 x) (leb x high) both), leb-true x high (and-right (leb 1 x) (leb x high) both))
 
 -- What a schedule's header and its number of records satisfy.
 pub record Schedule (s : List ℕ) (d : Header) (n : ℕ) : Type 0 where
+  pub mark : marked s ≡ true
+  pub version-is : versionOf s ≡ version
   pub header : d ≡ headerOf s
   pub p-low : 1 ≤ d .p
   pub p-high : d .p ≤ mostProcesses
@@ -135,20 +128,24 @@ pub record Schedule (s : List ℕ) (d : Header) (n : ℕ) : Type 0 where
 pub schedule : (s : List ℕ) (r : Reading) (d : Header) (n : ℕ) → r ≡ readOf s → r ≡ Reading.Schedule d n → Schedule s d n
 unfolding readOf
 schedule s r d n e f =
-    let h = past (fileRefusals s) d (headerOf s) n (recordsIn s) (sym e ∙ f) in
+    let h = past Reading.Refused (fileRefusals s) (Reading.Schedule (headerOf s) (recordsIn s)) (Reading.Schedule d n) (λ r. refused-not r d n) (sym e ∙ f) in
     let none = h .0 in
+    let d-is : d ≡ headerOf s = cc (h .1) in
     let fits = ltb-false mostBytes (length s) (none .0) in
     let few = ltb-false mostFileCells (headerOf s .m) (none .1 .1 .1 .0) in
-    let long = leb-true headerBytes (length s) (and-left (leb headerBytes (length s)) (marked s) (not-false _ (none .1 .0))) in
+    let begins = not-false (leb headerBytes (length s) && marked s) (none .1 .0) in
+    let long = leb-true headerBytes (length s) (and-left (leb headerBytes (length s)) (marked s) begins) in
     let whole = eqb-true (bodyBytes s % recordBytes) 0 (not-false _ (none .1 .1 .1 .1 .0)) in
     let known = not-false (kindsFit s) (none .1 .1 .1 .1 .1 .0) in
     let p-in = within (headerOf s .p) mostProcesses (none .1 .1 .1 .1 .1 .1 .0) in
     let m-in = within (headerOf s .m) mostCells (none .1 .1 .1 .1 .1 .1 .1 .0) in
-    let p-is : d .p ≡ headerOf s .p = ap (λ (x : Header). x .p) (h .1 .0) in
-    let m-is : d .m ≡ headerOf s .m = ap (λ (x : Header). x .m) (h .1 .0) in
-    let n-is = h .1 .1 in
+    let p-is : d .p ≡ headerOf s .p = ap (λ (x : Header). x .p) d-is in
+    let m-is : d .m ≡ headerOf s .m = ap (λ (x : Header). x .m) d-is in
+    let n-is : n ≡ recordsIn s = cc (h .1) in
     record {
-      header = h .1 .0;
+      mark = and-right (leb headerBytes (length s)) (marked s) begins;
+      version-is = eqb-true (versionOf s) version (not-false _ (none .1 .1 .0));
+      header = d-is;
       p-low = rw p-is (p-in .0);
       p-high = rw p-is (p-in .1);
       m-low = rw m-is (m-in .0);

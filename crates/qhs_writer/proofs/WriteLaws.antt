@@ -20,6 +20,7 @@ use Rattle.qhs_writer.specs.declared.Wrote.the-variants as Wrote
 use Rattle.qhs_writer.specs.Writer.{Fields, count, headBytes, entriesBelow, fileOf, known, page, writeOf}
 use Rattle.qhs_writer.specs.Inner.{Laid}
 use Rattle.qhs_writer.specs.Sizes.{file-length}
+use Rattle.qhs_writer.specs.Outcomes.{Fine, over-long, written as put}
 use Rattle.qhs_writer.proofs.LaidLaws.{laid-then}
 
 -- ---- the kinds of the first records
@@ -48,8 +49,7 @@ module _ (h : Header) (f : Fields) (out : List ℕ) (n : ℕ) (is : n ≡ count 
   long = file-length h f ∙ rw is
 
   pub too-long : 8189 < n → page (Wrote.Refused Refusal.FileTooLong) out ≡ writeOf h f out
-  unfolding writeOf
-  too-long g = simp (lt-ltb mostBytes (length (fileOf h f)) (omega (arith, long)))
+  too-long g = sym (over-long h f out (omega arith))
 
   module _ (fits : n ≤ 8189) where
     short : ltb mostBytes (length (fileOf h f)) ≡ false
@@ -96,11 +96,12 @@ module _ (h : Header) (f : Fields) (out : List ℕ) (n : ℕ) (is : n ≡ count 
 
               pub written : (o o′ : List ℕ) (a b : ℕ) → headerBytes + recordBytes * n ≤ length out → Laid out 0 headerBytes (headBytes h) o a
                   → Laid o a (recordBytes * n) (entriesBelow f n) o′ b → page (Wrote.Bytes b) o′ ≡ writeOf h f out
-              unfolding writeOf fileOf
+              unfolding fileOf
               written o o′ a b g l k =
                   let all = laid-then out o o′ (headBytes h) (entriesBelow f n) 0 headerBytes (recordBytes * n) a b (omega arith) l k in
                   let whole : fileOf h f ≡ headBytes h ++ entriesBelow f n = rw is in
                   let ends : b ≡ length (fileOf h f) = omega (arith, all .ends, long) in
                   let shows : o′ ≡ splice out 0 (fileOf h f) = all .shows ∙ rw whole in
-                  simp (short, le-ltb _ _ few, fine, le-leb _ _ p-low, le-leb _ _ p-high, le-leb _ _ m-low, m-high, le-ltb (length out) (length (fileOf h f)) (omega (arith, long)))
-                  (rw (ends, shows))
+                  let all-fine : Fine h f out =
+                  record { fits = omega (arith, long); few = few; known = fine; p-low = p-low; p-high = p-high; m-low = m-low; room = omega (arith, long) } in
+                  rw (ends, shows) (sym (put h f out all-fine))

@@ -1,3 +1,10 @@
 pub mod Writer
 pub mod Inner
 pub mod Sizes
+pub mod Again
+pub mod Claims
+pub mod Outcomes
+pub mod Digits
+pub mod WrittenRead
+pub mod ReadWritten
+pub mod Samples

@@ -1,0 +1,22 @@
+-- What an order of refusals shows where what it gives is no refusal.
+-- Assumes nothing.
+use mathlib.Core.Path.{_≡_, refl}
+use mathlib.Core.Bool.{Bool, true, false}
+use mathlib.Core.List.{List, [], _∷_}
+use Rattle.refusals.specs.declared.Refusal.{Refusal}
+use Rattle.refusals.specs.Orders.{Rule, pick, orders}
+
+-- No refusal of an order holds.
+abbrev pub None : List Rule → Type 0
+None [] = Unit {0}
+None (r ∷ rs) = (r .when ≡ false) × None rs
+
+pub past : {A : Type 0} (refuse : Refusal → A) (rules : List Rule) (work x : A) → ((r : Refusal) → refuse r ≡ x → ⊥) → orders refuse rules work ≡ x
+    → None rules × (work ≡ x)
+past refuse [] work x apart h = (tt, h)
+past {A} refuse (r ∷ rs) work x apart h = by (λ y. past refuse rs work x apart y) (r .when) refl h
+  where
+    by : (orders refuse rs work ≡ x → None rs × (work ≡ x)) → (b : Bool) → r .when ≡ b → pick b (refuse (r .gives)) (orders refuse rs work) ≡ x
+        → None (r ∷ rs) × (work ≡ x)
+    by later true e y = absurd (apart (r .gives) y)
+    by later false e y = let p = later y in ((e, p .0), p .1)
