@@ -2,10 +2,11 @@
 
     python3 tests/compare.py files --fixed 2000 --fresh 200 [--jobs 2] --ours COMMAND...
     python3 tests/compare.py planners --fixed 600 --fresh 100 [--jobs 2] --ours COMMAND...
+    python3 tests/compare.py rewrite --fixed 600 --fresh 100 [--jobs 2] --ours COMMAND...
     python3 tests/compare.py calls --fixed 20000 --fresh 2000 [--jobs 2] --ours COMMAND...
 
-COMMAND is all that follows --ours; it may begin with an emulator. `files` and
-`planners` start it once a file, `calls` once a batch of vectors. A difference is printed with
+COMMAND is all that follows --ours; it may begin with an emulator. `files`, `planners`
+and `rewrite` start it once a file, `calls` once a batch of vectors. A difference is printed with
 the path of the file that shows it, and the exit status is 1. `--seed S`
 plays a fresh seed again.
 """
@@ -26,8 +27,10 @@ import calls  # noqa: E402
 import files  # noqa: E402
 import planners  # noqa: E402
 import program  # noqa: E402
+import rounds  # noqa: E402
 import sheets  # noqa: E402
 import vectors  # noqa: E402
+import writer  # noqa: E402
 
 BATCH_BYTES = 1_000_000   # vectors sent to one run; a reader may hold 1 MiB
 LINES_A_VECTOR = 7
@@ -54,7 +57,7 @@ def first_difference(expected, got):
         one = left[number] if number < len(left) else b"(no line)"
         other = right[number] if number < len(right) else b"(no line)"
         if one != other:
-            return number, one.decode(), other.decode(errors="replace")
+            return number, one.decode(errors="replace"), other.decode(errors="replace")
     return None
 
 
@@ -78,6 +81,12 @@ def sheet_items(seed, count):
         yield f"{index:06}.qhs", data, planners.output(data).encode()
 
 
+def rewrite_items(seed, count):
+    for index in range(count):
+        data = rounds.file_bytes(seed, index)
+        yield f"{index:06}.qhs", data, writer.output(data)
+
+
 def call_items(seed, count):
     batch, size, number = [], 0, 0
     for data in vectors.stream(seed, count):
@@ -99,6 +108,7 @@ def batch_item(number, batch):
 # What is made of a seed, the fixed seed, how many with it, and what they are called.
 WHAT = {"files": (file_items, files.FIXED_SEED, 2_000, "files"),
         "planners": (sheet_items, files.FIXED_SEED, 600, "files"),
+        "rewrite": (rewrite_items, files.FIXED_SEED, 600, "files"),
         "calls": (call_items, vectors.FIXED_SEED, 20_000, "vectors")}
 
 

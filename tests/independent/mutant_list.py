@@ -2,13 +2,14 @@
 
 from collections import namedtuple
 
-# by: what must tell it apart ("files", "planners", "calls", or several).
+# by: what must tell it apart ("files", "planners", "rewrite", "calls", or several).
 # edits: (file, text, other text); each text stands exactly once in its file.
 Mutant = namedtuple("Mutant", "name by edits")
 
 BOTH = ("files", "calls")
 FILES = ("files",)
 PLANNERS = ("planners",)
+REWRITE = ("rewrite",)
 CALLS = ("calls",)
 
 NO_TOMBSTONE = Mutant("no tombstone", BOTH, (
@@ -209,4 +210,17 @@ MUTANTS = [
         "enumerate(found.encode()):", "enumerate(found.encode().ljust(len(page), bytes(1))):"),
     one("text: a cell's reading by the filling rule", PLANNERS, "planners.py",
         "(cell, mem.readings[cell])", "(cell, (state.first + state.step * cell) % 2**32)"),
+    # The writer.
+    one("writer: a step keeps its cell", REWRITE, "writer.py", '"step": ()', '"step": ("cell",)'),
+    one("writer: a read keeps its value", REWRITE, "writer.py", '"read": ("cell",)', '"read": ("cell", "value")'),
+    one("writer: an asked keeps its value", REWRITE, "writer.py", '"asked": ("cell",)', '"asked": ("cell", "value")'),
+    one("writer: a write's value left out", REWRITE, "writer.py", '"write": ("cell", "value")', '"write": ("cell",)'),
+    one("writer: bytes in the other order", REWRITE, "writer.py", '"little"', '"big"'),
+    one("writer: the fill's halves exchanged", REWRITE, "writer.py",
+        "(header.fill, 8)", "(header.fill >> 32, 4), (header.fill % 2**32, 4)"),
+    one("writer: first and step exchanged", REWRITE, "writer.py",
+        "(header.first, 4), (header.step, 4)", "(header.step, 4), (header.first, 4)"),
+    one("writer: the last record left out", REWRITE, "writer.py",
+        "for record in records)\n\n\ndef number", "for record in records[:-1])\n\n\ndef number"),
+    one("writer: one record too few", REWRITE, "writer.py", "if size > room:", "if size >= room:"),
 ]

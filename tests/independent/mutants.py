@@ -1,4 +1,5 @@
-"""Tells every mutant of the independent program apart by the fixed files, the planners' files or the vectors, or fails.
+"""Tells every mutant of the independent program apart by the fixed files, the planners' files, the files to write again or the
+vectors, or fails.
 
     mutants.py [--jobs 2] [NAME...]     only mutants whose name holds NAME
 """
@@ -16,15 +17,18 @@ import calls
 import files
 import planners
 import program
+import rounds
 import sheets
 import vectors
+import writer
 from mutant_list import MUTANTS
 
 HERE = pathlib.Path(__file__).resolve().parent
-SOURCES = ("state.py", "grid.py", "qhs.py", "program.py", "planners.py", "calls.py")
+SOURCES = ("state.py", "grid.py", "qhs.py", "program.py", "planners.py", "writer.py", "calls.py")
 # A mutant is first tried on this many; on all the fixed ones if none tells it apart.
 SOME_FILES, ALL_FILES = 700, 2_000
 SOME_SHEETS, ALL_SHEETS = 200, 600
+SOME_ROUNDS, ALL_ROUNDS = 200, 600
 SOME_VECTORS, ALL_VECTORS = 6_000, 20_000
 
 sys.dont_write_bytecode = True
@@ -67,7 +71,7 @@ def told_by_file(theirs, data, expected):
         return True
 
 
-def told_by_sheet(theirs, data, expected):
+def told_by_output(theirs, data, expected):
     try:
         return theirs.output(data) != expected
     except Exception:
@@ -82,8 +86,8 @@ def told_by_vector(theirs, data, expected):
 
 
 # How a mutant is tried: the test, the module, and on how many first.
-TRIALS = {"files": (told_by_file, "program", SOME_FILES), "planners": (told_by_sheet, "planners", SOME_SHEETS),
-          "calls": (told_by_vector, "calls", SOME_VECTORS)}
+TRIALS = {"files": (told_by_file, "program", SOME_FILES), "planners": (told_by_output, "planners", SOME_SHEETS),
+          "rewrite": (told_by_output, "writer", SOME_ROUNDS), "calls": (told_by_vector, "calls", SOME_VECTORS)}
 INPUTS = {}  # filled before the workers start
 
 
@@ -92,6 +96,8 @@ def prepare():
     INPUTS["files"] = [(data, list(program.lines(data))) for data in made]
     made = [sheets.file_bytes(files.FIXED_SEED, index) for index in range(ALL_SHEETS)]
     INPUTS["planners"] = [(data, planners.output(data)) for data in made]
+    made = [rounds.file_bytes(files.FIXED_SEED, index) for index in range(ALL_ROUNDS)]
+    INPUTS["rewrite"] = [(data, writer.output(data)) for data in made]
     packed = list(vectors.stream(vectors.FIXED_SEED, ALL_VECTORS))
     INPUTS["calls"] = [(data, calls.printed(calls.unpack(data, 0)[0])) for data in packed]
 
@@ -117,7 +123,7 @@ def main():
     chosen = [mutant for mutant in MUTANTS
               if not options.names or any(name in mutant.name for name in options.names)]
     prepare()
-    print(f"{ALL_FILES} files, {ALL_SHEETS} planners' files and {ALL_VECTORS} vectors made, {time.monotonic() - start:.0f} s")
+    print(f"{ALL_FILES} files, {ALL_SHEETS} planners' files, {ALL_ROUNDS} to write again and {ALL_VECTORS} vectors made, {time.monotonic() - start:.0f} s")
     tasks = [(mutant, by) for by in TRIALS for mutant in chosen if by in mutant.by]
     survivors = 0
     with multiprocessing.get_context("fork").Pool(options.jobs) as pool:
