@@ -5,7 +5,7 @@ use mathlib.Core.Path.{_≡_, refl, sym, ap, _∙_}
 use mathlib.Core.List.{List, [], _∷_, _++_}
 use native.Mathlib.Nat.{pow-zero, pow-succ'}
 use native.Mathlib.Omega.{arith}
-use lib.ListN.{length, drop, List·getD-append}
+use lib.ListN.{length, List·getD-append}
 use lib.Seq.{drop-append-seam}
 use Rattle.qhs.specs.Qhs.{byteAt, numberAt}
 use Rattle.qhs.specs.Laws.{Bytes, number-drop}

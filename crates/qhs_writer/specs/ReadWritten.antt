@@ -1,8 +1,8 @@
 -- What the reader accepts is written again as the same bytes, ignored fields put to zero.
 -- Assumes nothing.
-use Prim.Native.Nat.{ℕ, zero, suc, _+_, _*_, _<_, _≤_, min}
+use Prim.Native.Nat.{ℕ, zero, suc, _+_, _<_, _≤_}
 use mathlib.Core.Path.{_≡_, refl, sym, ap, _∙_}
-use mathlib.Core.Bool.{Bool, true, false, _&&_}
+use mathlib.Core.Bool.{true, _&&_}
 use mathlib.Core.List.{List, [], _∷_, _++_}
 use mathlib.Core.Logic.{⊎-elim}
 use native.Mathlib.Nat.{not-suc-le-zero, eq-or-lt-of-le}
@@ -14,17 +14,17 @@ use borrow.Author.Tests.{eqb-true, le-leb, lt-ltb, le-ltb}
 use Rattle.refusals.specs.Orders.{pick}
 use Rattle.qhs.specs.declared.Header.{Header}
 use Rattle.qhs.specs.declared.Reading.the-variants as Reading
-use Rattle.qhs.specs.Qhs.{headerBytes, recordBytes, version, mostKind, byteAt, numberAt, marked, versionOf, headerOf, recordStart, recordAt, recordsIn, each, readOf}
+use Rattle.qhs.specs.Qhs.{headerBytes, recordBytes, version, mostKind, byteAt, numberAt, marked, versionOf, headerOf, recordStart, recordAt, recordsIn}
 use Rattle.qhs.specs.Laws.{Bytes, Schedule, schedule, each-all, and-left, and-right, number-one}
 use Rattle.text.specs.Text.{splice}
 use Rattle.qhs_writer.specs.declared.Entry.{Entry}
 use Rattle.qhs_writer.specs.declared.Wrote.the-variants as Wrote
-use Rattle.qhs_writer.specs.Writer.{Fields, count, entryAt, bytesOf, mark, frontBytes, backBytes, headBytes, stepKind, writeKind, needed, entryBytes, entriesBelow, fileOf, known, allKnown, page, writeOf}
+use Rattle.qhs_writer.specs.Writer.{count, entryAt, bytesOf, mark, frontBytes, backBytes, headBytes, stepKind, writeKind, needed, entryBytes, entriesBelow, fileOf, known, allKnown, page}
 use Rattle.qhs_writer.specs.Again.{listed, fieldsOf, ignoredFrom, keptAt, zeroedBelow, zeroed}
 use Rattle.qhs_writer.specs.Claims.{ReadIsWritten}
 use Rattle.qhs_writer.specs.Sizes.{file-length}
 use Rattle.qhs_writer.specs.Digits.{part, bytes-of}
-use Rattle.qhs_writer.specs.Outcomes.{Fine, filed, written}
+use Rattle.qhs_writer.specs.Outcomes.{Fine, written}
 
 -- ---- lists by their numbers
 

@@ -3,28 +3,26 @@
 use Prim.Native.Nat.{ℕ, zero, suc, _+_, _*_, _%_, _^_, _<_, _≤_}
 use mathlib.Core.Path.{_≡_, refl, sym, ap, _∙_}
 use mathlib.Core.Bool.{Bool, true, false}
-use mathlib.Core.List.{List, [], _∷_, _++_, append-assoc}
+use mathlib.Core.List.{List, [], _++_, append-assoc}
 use mathlib.Core.Logic.{⊎-elim}
 use native.Mathlib.Nat.{not-suc-le-zero, eq-or-lt-of-le}
 use native.Mathlib.Omega.{arith}
-use lib.Dec.{leb, eqb}
-use lib.ListN.{length, getD, take, length-append}
+use lib.Dec.{eqb}
+use lib.ListN.{length, length-append}
 use borrow.Author.Tests.{le-ltb, le-leb, leb-true, eq-eqb}
 use Rattle.numbers.specs.Numbers.{mostProcesses, mostCells}
 use Rattle.refusals.specs.Orders.{pick}
 use Rattle.qhs.specs.declared.Header.{Header}
-use Rattle.qhs.specs.declared.Record.{Record}
 use Rattle.qhs.specs.declared.Reading.{Reading}
 use Rattle.qhs.specs.declared.Reading.the-variants as Reading
-use Rattle.qhs.specs.Qhs.{headerBytes, recordBytes, mostBytes, version, mostFileCells, mostKind, byteAt, numberAt, marked, versionOf, headerOf}
+use Rattle.qhs.specs.Qhs.{headerBytes, recordBytes, mostBytes, version, mostFileCells, mostKind, numberAt, marked, versionOf, headerOf}
 use Rattle.qhs.specs.Qhs.{fieldsAt, recordStart, recordAt, bodyBytes, recordsIn, kindFits, kindsFit, readOf}
 use Rattle.qhs.specs.Laws.{each-at, each-all, Words}
 use Rattle.qhs_writer.specs.declared.Entry.{Entry}
-use Rattle.qhs_writer.specs.declared.Wrote.the-variants as Wrote
-use Rattle.qhs_writer.specs.Writer.{Fields, count, entryAt, bytesOf, frontBytes, backBytes, headBytes, stepKind, writeKind, needed, entryBytes, entriesBelow, fileOf, known, page, writeOf}
+use Rattle.qhs_writer.specs.Writer.{Fields, count, entryAt, bytesOf, frontBytes, backBytes, headBytes, stepKind, writeKind, needed, entryBytes, entriesBelow, fileOf, known}
 use Rattle.qhs_writer.specs.Again.{readAs}
 use Rattle.qhs_writer.specs.Claims.{Typed, WrittenIsRead}
-use Rattle.qhs_writer.specs.Sizes.{head-length, entry-length, entries-length, file-length}
+use Rattle.qhs_writer.specs.Sizes.{head-length, entries-length, file-length}
 use Rattle.qhs_writer.specs.Digits.{number-of, number-front, number-back}
 use Rattle.qhs_writer.specs.Outcomes.{Fine, fine, file-is}
 
