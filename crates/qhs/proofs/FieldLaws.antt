@@ -2,7 +2,7 @@
 -- Assumes nothing.
 use mathlib.Core.Path.{_≡_, refl, sym, ap, _∙_}
 use mathlib.Core.Bool.{Bool, true, false}
-use mathlib.Core.List.{List}
+use mathlib.Core.List.{List, [], _∷_}
 use Prim.Native.Nat.{ℕ, _+_, _-_, _*_, _/_, _^_, _<_, _≤_}
 use native.Mathlib.Nat.{pow-succ', pow-le-pow-right}
 use native.Mathlib.Numerals.{add-one}
@@ -13,7 +13,7 @@ use lib.Dec.{leb, eqb}
 use borrow.Author.Tests.{le-leb, lt-leb, leb-false, eq-eqb, ne-eqb}
 use Rattle.qhs.specs.declared.Record.{Record}
 use Rattle.qhs.specs.Qhs.{headerBytes, recordBytes, byteAt, numberAt, marked, fieldsAt, recordStart, recordAt}
-use Rattle.qhs.specs.Inner.{eight, startIn}
+use Rattle.qhs.specs.Inner.{startIn}
 use Rattle.qhs.specs.Laws.{number-cons, number-one, number-drop, number-past}
 
 pub past-end : (s : List ℕ) (i : ℕ) → length s ≤ i → 0 ≡ byteAt s i
@@ -85,6 +85,11 @@ module _ (len k : ℕ) where
 pub fields-are : (own : List ℕ) (cell value : ℕ) → cell ≡ numberAt own 2 2 → value ≡ numberAt own 4 4
     → record { kind = byteAt own 0; process = byteAt own 1; cell = cell; value = value } ≡ fieldsAt own 0
 fields-are own cell value e f = rw (number-one own 0, number-one own 1, e, f)
+
+-- The eight bytes that a record is copied into.
+abbrev eight : List ℕ → List ℕ
+eight s =
+    byteAt s 0 ∷ byteAt s 1 ∷ byteAt s 2 ∷ byteAt s 3 ∷ byteAt s 4 ∷ byteAt s 5 ∷ byteAt s 6 ∷ byteAt s 7 ∷ []
 
 -- the copy has the record's fields, where the record starts in the file
 fields-eight : (s : List ℕ) → fieldsAt (eight s) 0 ≡ fieldsAt s 0

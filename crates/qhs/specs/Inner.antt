@@ -1,18 +1,12 @@
 -- What the reader's own functions are held to.
 -- Assumes nothing.
 use Prim.Native.Nat.{ℕ}
-use mathlib.Core.List.{List, [], _∷_}
 use lib.Dec.{leb}
 use Rattle.refusals.specs.Orders.{orders, pick}
 use Rattle.qhs.specs.declared.Header.{Header}
 use Rattle.qhs.specs.declared.Reading.{Reading}
 use Rattle.qhs.specs.declared.Reading.the-variants as Reading
-use Rattle.qhs.specs.Qhs.{byteAt, recordStart, openRefusals}
-
--- The eight bytes that a record is copied into.
-abbrev pub eight : List ℕ → List ℕ
-eight s =
-    byteAt s 0 ∷ byteAt s 1 ∷ byteAt s 2 ∷ byteAt s 3 ∷ byteAt s 4 ∷ byteAt s 5 ∷ byteAt s 6 ∷ byteAt s 7 ∷ []
+use Rattle.qhs.specs.Qhs.{recordStart, openRefusals}
 
 -- Where record k starts in a file of so many bytes; the file's end where it would start past it.
 abbrev pub startIn : ℕ → ℕ → ℕ

@@ -1,9 +1,10 @@
 // The fields of a file's bytes: little-endian numbers, and the eight bytes of a record.
 ghost use mathlib.Core.Path.{_≡_};
+ghost use mathlib.Core.List.{[], _∷_};
 ghost use Prim.Native.Nat.{_+_, _^_, _≤_, _<_};
 ghost use lib.ListN.{length};
 ghost use Rattle.qhs.specs.Qhs.{byteAt, numberAt, fieldsAt};
-ghost use Rattle.qhs.specs.Inner.{eight, startIn};
+ghost use Rattle.qhs.specs.Inner.{startIn};
 use super::HEADER_BYTES;
 use super::RECORD_BYTES;
 use super::Record;
@@ -50,7 +51,7 @@ pub fn start_of(len: usize, k: usize) -> usize
 
 // The first eight bytes, copied; one past the end counts as 0.
 pub fn copied(bytes: &[u8]) -> [u8; RECORD_BYTES]
-    ensures { λ r. ⌜ r ≡ eight (now (bytes .entry)) ⌝ }
+    ensures { λ r. ⌜ r ≡ byteAt (now (bytes .entry)) 0 ∷ byteAt (now (bytes .entry)) 1 ∷ byteAt (now (bytes .entry)) 2 ∷ byteAt (now (bytes .entry)) 3 ∷ byteAt (now (bytes .entry)) 4 ∷ byteAt (now (bytes .entry)) 5 ∷ byteAt (now (bytes .entry)) 6 ∷ byteAt (now (bytes .entry)) 7 ∷ [] ⌝ }
 {
     [
         byte_at(bytes, 0),
