@@ -2,19 +2,18 @@
 -- Assumes nothing.
 use mathlib.Core.Path.{_≡_, refl, sym, ap, _∙_}
 use mathlib.Core.Bool.{Bool, true, false}
-use mathlib.Core.List.{List, [], _∷_}
+use mathlib.Core.List.{List}
 use Prim.Native.Nat.{ℕ, _+_, _-_, _*_, _/_, _^_, _<_, _≤_}
 use native.Mathlib.Nat.{pow-succ', pow-le-pow-right}
 use native.Mathlib.Numerals.{add-one}
 use native.Mathlib.Omega.{arith}
-use lib.ListN.{length, take, drop, length-drop, List·getD-eq-default}
-use lib.Seq.{take-all}
+use lib.ListN.{length, List·getD-eq-default}
 use lib.Dec.{leb, eqb}
 use borrow.Author.Tests.{le-leb, lt-leb, leb-false, eq-eqb, ne-eqb}
 use Rattle.qhs.specs.declared.Record.{Record}
 use Rattle.qhs.specs.Qhs.{headerBytes, recordBytes, byteAt, numberAt, marked, fieldsAt, recordStart, recordAt}
 use Rattle.qhs.specs.Inner.{startIn}
-use Rattle.qhs.specs.Laws.{number-cons, number-one, number-drop, number-past}
+use Rattle.qhs.specs.Laws.{number-cons, number-one, number-past}
 
 pub past-end : (s : List ℕ) (i : ℕ) → length s ≤ i → 0 ≡ byteAt s i
 past-end s i h = sym (List·getD-eq-default s 0 {n = i} h)
@@ -82,24 +81,17 @@ module _ (len k : ℕ) where
 
 -- ---- a record's fields
 
-pub fields-are : (own : List ℕ) (cell value : ℕ) → cell ≡ numberAt own 2 2 → value ≡ numberAt own 4 4
-    → record { kind = byteAt own 0; process = byteAt own 1; cell = cell; value = value } ≡ fieldsAt own 0
-fields-are own cell value e f = rw (number-one own 0, number-one own 1, e, f)
-
--- The eight bytes that a record is copied into.
-abbrev eight : List ℕ → List ℕ
-eight s =
-    byteAt s 0 ∷ byteAt s 1 ∷ byteAt s 2 ∷ byteAt s 3 ∷ byteAt s 4 ∷ byteAt s 5 ∷ byteAt s 6 ∷ byteAt s 7 ∷ []
-
--- the copy has the record's fields, where the record starts in the file
-fields-eight : (s : List ℕ) → fieldsAt (eight s) 0 ≡ fieldsAt s 0
+pub cell-is : (s : List ℕ) (at a b x y : ℕ) → a ≡ byteAt s at → b ≡ byteAt s (at + 1) → x ≡ a → y ≡ b → x + 256 * y ≡ numberAt s at 2
 unfolding numberAt
-fields-eight s = refl
+cell-is s at a b x y d e f g = omega arith
 
-fields-drop : (s : List ℕ) (from : ℕ) → fieldsAt (drop from s) 0 ≡ fieldsAt s from
-fields-drop s from =
-    let e : from + 0 ≡ from = omega arith in
-    rw (number-drop s from 0 1, number-drop s from 1 1, number-drop s from 2 2, number-drop s from 4 4, e)
+pub value-is : (s : List ℕ) (at a b c d x y z w : ℕ) → a ≡ byteAt s at → b ≡ byteAt s (at + 1) → c ≡ byteAt s (at + 2) → d ≡ byteAt s (at + 3)
+    → x ≡ a → y ≡ b → z ≡ c → w ≡ d → x + 256 * y + 65536 * z + 16777216 * w ≡ numberAt s at 4
+unfolding numberAt
+value-is s at a b c d x y z w e f g h i j k l =
+    let two : at + 1 + 1 ≡ at + 2 = omega arith in
+    let three : at + 2 + 1 ≡ at + 3 = omega arith in
+    rw (two, three) (omega arith)
 
 fields-past : (s : List ℕ) (a b : ℕ) → length s ≤ a → length s ≤ b → fieldsAt s a ≡ fieldsAt s b
 fields-past s a b h k =
@@ -111,15 +103,18 @@ unfolding recordAt
 fields-start s k true e = rw e
 fields-start s k false e = rw e (fields-past s (length s) (recordStart k) (omega arith) (let h = leb-false (recordStart k) (length s) e in omega arith))
 
--- a part of the file up to its end
-part-end : (s : List ℕ) (at : ℕ) → take (length s - at) (drop at s) ≡ drop at s
-part-end s at = take-all (length s - at) (drop at s) (rw (length-drop at s) (omega arith))
+module _ (s : List ℕ) (k at : ℕ) (start : at ≡ startIn (length s) k) where
+  there : fieldsAt s at ≡ recordAt s k
+  there = ap (λ (x : ℕ). fieldsAt s x) start ∙ fields-start s k (leb (recordStart k) (length s)) refl
 
-pub record-there : (s : List ℕ) (k at : ℕ) (own : List ℕ) (r : Record) → at ≡ startIn (length s) k → own ≡ eight (take (length s - at) (drop at s))
-    → r ≡ fieldsAt own 0 → r ≡ recordAt s k
-record-there s k at own r e f g =
-    g ∙ ap (λ (x : List ℕ). fieldsAt x 0) f ∙ ap (λ (x : List ℕ). fieldsAt (eight x) 0) (part-end s at) ∙ fields-eight (drop at s) ∙ fields-drop s at
-    ∙ ap (λ (x : ℕ). fieldsAt s x) e ∙ fields-start s k (leb (recordStart k) (length s)) refl
+  pub record-there : (kind process cell value : ℕ) → kind ≡ byteAt s at → process ≡ byteAt s (at + 1) → cell ≡ numberAt s (at + 2) 2 → value ≡ numberAt s (at + 4) 4
+      → record { kind = kind; process = process; cell = cell; value = value } ≡ recordAt s k
+  record-there kind process cell value a b c d =
+      rw (a, b, c, d, ← number-one s at, ← number-one s (at + 1)) there
+
+  pub kind-there : (kind : ℕ) → kind ≡ byteAt s at → kind ≡ recordAt s k .kind
+  kind-there kind e =
+      e ∙ sym (number-one s at) ∙ ap (λ (r : Record). r .kind) there
 
 -- ---- the mark
 

@@ -1,13 +1,11 @@
-// The fields of a file's bytes: little-endian numbers, and the eight bytes of a record.
+// The fields of a file's bytes: little-endian numbers, and what a record holds.
 ghost use mathlib.Core.Path.{_≡_};
-ghost use mathlib.Core.List.{[], _∷_};
 ghost use Prim.Native.Nat.{_+_, _^_, _≤_, _<_};
 ghost use lib.ListN.{length};
-ghost use Rattle.qhs.specs.Qhs.{byteAt, numberAt, fieldsAt};
+ghost use Rattle.qhs.specs.Qhs.{byteAt, numberAt};
 ghost use Rattle.qhs.specs.Inner.{startIn};
 use super::HEADER_BYTES;
 use super::RECORD_BYTES;
-use super::Record;
 
 fn wide(b: u8) -> u64
     ensures { λ r. ⌜ (r ≡ b) × (r < 256) ⌝ }
@@ -16,7 +14,7 @@ fn wide(b: u8) -> u64
 }
 
 // Byte i; one past the end counts as 0.
-fn byte_at(bytes: &[u8], i: usize) -> u8
+pub fn byte_at(bytes: &[u8], i: usize) -> u8
     ensures { λ r. ⌜ r ≡ byteAt (now (bytes .entry)) i ⌝ }
 {
     if i < bytes.len() { bytes[i] } else { 0 }
@@ -49,30 +47,21 @@ pub fn start_of(len: usize, k: usize) -> usize
     HEADER_BYTES + RECORD_BYTES * k
 }
 
-// The first eight bytes, copied; one past the end counts as 0.
-pub fn copied(bytes: &[u8]) -> [u8; RECORD_BYTES]
-    ensures { λ r. ⌜ r ≡ byteAt (now (bytes .entry)) 0 ∷ byteAt (now (bytes .entry)) 1 ∷ byteAt (now (bytes .entry)) 2 ∷ byteAt (now (bytes .entry)) 3 ∷ byteAt (now (bytes .entry)) 4 ∷ byteAt (now (bytes .entry)) 5 ∷ byteAt (now (bytes .entry)) 6 ∷ byteAt (now (bytes .entry)) 7 ∷ [] ⌝ }
+// A record's cell, in the file's two bytes from `at` on; a byte past the end counts as 0.
+pub fn cell_at(bytes: &[u8], at: usize) -> u16
+    requires { ⌜ at ≤ length (now bytes) + 4 ⌝ }
+    ensures { λ r. ⌜ r ≡ numberAt (now (bytes .entry)) at 2 ⌝ }
 {
-    [
-        byte_at(bytes, 0),
-        byte_at(bytes, 1),
-        byte_at(bytes, 2),
-        byte_at(bytes, 3),
-        byte_at(bytes, 4),
-        byte_at(bytes, 5),
-        byte_at(bytes, 6),
-        byte_at(bytes, 7),
-    ]
+    (wide(byte_at(bytes, at)) + 256 * wide(byte_at(bytes, at + 1))) as u16
 }
 
-// A record's fields, in its eight bytes.
-pub fn record_of(own: [u8; RECORD_BYTES]) -> Record
-    ensures { λ r. ⌜ r ≡ fieldsAt own 0 ⌝ }
+// A record's value, in the file's four bytes from `at` on.
+pub fn value_at(bytes: &[u8], at: usize) -> u32
+    requires { ⌜ at ≤ length (now bytes) + 4 ⌝ }
+    ensures { λ r. ⌜ r ≡ numberAt (now (bytes .entry)) at 4 ⌝ }
 {
-    Record {
-        kind: own[0],
-        process: own[1],
-        cell: number_at(&own, 2, 2) as u16,
-        value: number_at(&own, 4, 4) as u32,
-    }
+    (wide(byte_at(bytes, at))
+        + 256 * wide(byte_at(bytes, at + 1))
+        + 65536 * wide(byte_at(bytes, at + 2))
+        + 16777216 * wide(byte_at(bytes, at + 3))) as u32
 }

@@ -83,7 +83,12 @@ pub fn record_at(bytes: &[u8], k: usize) -> Record
     ensures { λ r. ⌜ r ≡ recordAt (now (bytes .entry)) k ⌝ }
 {
     let at = fields::start_of(bytes.len(), k);
-    fields::record_of(fields::copied(&bytes[at..]))
+    Record {
+        kind: fields::byte_at(bytes, at),
+        process: fields::byte_at(bytes, at + 1),
+        cell: fields::cell_at(bytes, at + 2),
+        value: fields::value_at(bytes, at + 4),
+    }
 }
 
 // Whether the first n records are of known kinds.
@@ -92,8 +97,8 @@ fn kinds_fit(bytes: &[u8], n: usize) -> bool
 {
     let mut k: usize = 0;
     while k < n {
-        let r = record_at(bytes, k);
-        if LAST_KIND < r.kind {
+        let at = fields::start_of(bytes.len(), k);
+        if LAST_KIND < fields::byte_at(bytes, at) {
             return false;
         }
         k = k + 1;

@@ -8,20 +8,26 @@ use Rattle.qhs.proofs.record_at.Tie as tie
 start-of-requires : tie.Need-start-of-requires
 start-of-requires c κs = search needs
 
-sub-copied : tie.Need-sub-copied
-sub-copied c = search needs
+byte-at-requires : tie.Need-byte-at-requires
+byte-at-requires c κs = search needs
 
-part-copied-start : tie.Need-part-copied-start
-part-copied-start c = search needs
+add-byte-at : tie.Need-add-byte-at
+add-byte-at c = search needs
 
-part-copied-end : tie.Need-part-copied-end
-part-copied-end c = search needs
+byte-at-requires-2 : tie.Need-byte-at-requires-2
+byte-at-requires-2 c κs = search needs
 
-copied-requires : tie.Need-copied-requires
-copied-requires c κs = search needs
+add-cell-at : tie.Need-add-cell-at
+add-cell-at c = search needs
 
-record-of-requires : tie.Need-record-of-requires
-record-of-requires c κs = search needs
+cell-at-requires : tie.Need-cell-at-requires
+cell-at-requires c κs = search needs
+
+add-value-at : tie.Need-add-value-at
+add-value-at c = search needs
+
+value-at-requires : tie.Need-value-at-requires
+value-at-requires c κs = search needs
 
 returns : tie.Need-returns
 returns c = search (record-there)
@@ -31,9 +37,11 @@ record-at-spec =
     tie.close
     (tie.spec
     start-of-requires
-    sub-copied
-    part-copied-start
-    part-copied-end
-    copied-requires
-    record-of-requires
+    byte-at-requires
+    add-byte-at
+    byte-at-requires-2
+    add-cell-at
+    cell-at-requires
+    add-value-at
+    value-at-requires
     returns)
