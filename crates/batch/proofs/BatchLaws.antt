@@ -56,6 +56,7 @@ number-few Refusal.RaggedRecords = omega arith
 number-few Refusal.RecordKind = omega arith
 number-few Refusal.FileTooLong = omega arith
 number-few Refusal.NoRoom = omega arith
+number-few Refusal.NothingWritten = omega arith
 
 pub refusal-few : (n : ℕ) (r : Refusal) → n ≡ numberOf r → (5 < 256) × (n < 16777216)
 refusal-few n r e = (omega arith, rw e (number-few r))

@@ -1,4 +1,4 @@
--- The number that the papers give each refusal: 1 to 16 in document 01's table, 17 in 02's W1.
+-- The number that the papers give each refusal: 1 to 16 in document 01's table, 17 in 02's W1, 18 in W4.
 -- Assumes nothing.
 use Prim.Native.Nat.{ℕ}
 use Rattle.refusals.specs.declared.Refusal.{Refusal}
@@ -22,3 +22,4 @@ numberOf Refusal.RaggedRecords = 14
 numberOf Refusal.RecordKind = 15
 numberOf Refusal.FileTooLong = 16
 numberOf Refusal.NoRoom = 17
+numberOf Refusal.NothingWritten = 18

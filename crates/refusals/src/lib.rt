@@ -37,6 +37,8 @@ pub enum Refusal {
     FileTooLong,
     // The text does not fit the lent buffer.
     NoRoom,
+    // Hour summary: none of the four quarters is written.
+    NothingWritten,
 }
 
 // The table's number.
@@ -61,5 +63,6 @@ pub fn number(r: Refusal) -> u32
         Refusal::RecordKind => 15,
         Refusal::FileTooLong => 16,
         Refusal::NoRoom => 17,
+        Refusal::NothingWritten => 18,
     }
 }

@@ -94,6 +94,7 @@ two-digits Refusal.RaggedRecords = omega arith
 two-digits Refusal.RecordKind = omega arith
 two-digits Refusal.FileTooLong = omega arith
 two-digits Refusal.NoRoom = omega arith
+two-digits Refusal.NothingWritten = omega arith
 
 pub file-refused-short : (r : Refusal) → length (fileRefusedLine r) ≤ 16
 unfolding fileRefusedLine
