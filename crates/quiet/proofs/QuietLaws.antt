@@ -19,10 +19,10 @@ use Rattle.lanes.specs.Laws.{and-left, below-more}
 use Rattle.lanes.specs.Scan.{Passed, passed-all}
 use Rattle.steps.specs.declared.Found.{Found}
 use Rattle.steps.specs.declared.Found.the-variants as Found
-use Rattle.steps.specs.declared.Got.{Got}
-use Rattle.steps.specs.declared.Got.the-variants as Got
 use Rattle.steps.specs.Memory.{Memory}
 use Rattle.steps.specs.Steps.{check}
+use Rattle.quiet.specs.declared.Quarter.{Quarter}
+use Rattle.quiet.specs.declared.Quarter.the-variants as Quarter
 use Rattle.quiet.specs.declared.Scan.the-variants as Scan
 use Rattle.quiet.specs.Quiet.{marksAt, seenIn, onward, lookedAt, readingAs, readingAt, atRest, scanOf}
 
@@ -54,13 +54,13 @@ looked-is s i links directory pool a b c d e f g h =
     h ∙ ap (onward s i links directory pool) (g ∙ ap (onward s i links directory pool) (f ∙ ap (onward s i links directory pool) e))
 
 module _ (s : State) (i : Cell) (readings : List ℕ) (f : Found) where
-  pub filled : (w v : ℕ) → f ≡ Found.NotWritten w → v ≡ fillOf (s .first) (s .step) (i .0) → Got.Word v ≡ readingAs s i readings f
-  filled w v e h = rw e (ap Got.Word h)
+  pub filled : (w v : ℕ) → f ≡ Found.NotWritten w → v ≡ fillOf (s .first) (s .step) (i .0) → Quarter.Read v false ≡ readingAs s i readings f
+  filled w v e h = rw e (ap (λ (x : ℕ). Quarter.Read x false) h)
 
-  pub held : (v : ℕ) → f ≡ Found.Written → v ≡ getD readings (i .0) 0 → Got.Word v ≡ readingAs s i readings f
-  held v e h = rw e (ap Got.Word h)
+  pub held : (v : ℕ) → f ≡ Found.Written → v ≡ getD readings (i .0) 0 → Quarter.Read v true ≡ readingAs s i readings f
+  held v e h = rw e (ap (λ (x : ℕ). Quarter.Read x true) h)
 
-pub reading-is : (s : State) (i : Cell) (mem : Memory) (f : Found) (r : Got) → f ≡ lookedAt s (i .0) (mem .links) (mem .directory) (mem .pool)
+pub reading-is : (s : State) (i : Cell) (mem : Memory) (f : Found) (r : Quarter) → f ≡ lookedAt s (i .0) (mem .links) (mem .directory) (mem .pool)
     → r ≡ readingAs s i (mem .readings) f → r ≡ readingAt s i mem
 reading-is s i mem f r e h = h ∙ ap (readingAs s i (mem .readings)) e
 

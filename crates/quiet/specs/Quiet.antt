@@ -14,11 +14,11 @@ use Rattle.lanes.specs.declared.State.{State}
 use Rattle.lanes.specs.Ranges.{laneOf, idle, below, stateFits}
 use Rattle.steps.specs.declared.Found.{Found}
 use Rattle.steps.specs.declared.Found.the-variants as Found
-use Rattle.steps.specs.declared.Got.{Got}
-use Rattle.steps.specs.declared.Got.the-variants as Got
 use Rattle.steps.specs.Memory.{Memory}
 use Rattle.steps.specs.Steps.{check}
 use Rattle.grid.specs.Calls.{namedIn}
+use Rattle.quiet.specs.declared.Quarter.{Quarter}
+use Rattle.quiet.specs.declared.Quarter.the-variants as Quarter
 use Rattle.quiet.specs.declared.Scan.{Scan}
 use Rattle.quiet.specs.declared.Scan.the-variants as Scan
 
@@ -61,12 +61,12 @@ lookedAt s i links directory pool =
     onward s i links directory pool
     (onward s i links directory pool (onward s i links directory pool (onward s i links directory pool (Found.On Check.Link))))
 
--- A written cell has its reading, another f(i). No check is still on after four steps.
-abbrev pub readingAs : State → Cell → List ℕ → Found → Got
-readingAs s i readings Found.Outside = Got.Outside
-readingAs s i readings (Found.On c) = Got.Outside
-readingAs s i readings (Found.NotWritten link) = Got.Word (fillOf (s .first) (s .step) (i .0))
-readingAs s i readings Found.Written = Got.Word (getD readings (i .0) 0)
+-- A written cell has its reading, another f(i); and whether it is written. No check is still on after four steps.
+abbrev pub readingAs : State → Cell → List ℕ → Found → Quarter
+readingAs s i readings Found.Outside = Quarter.Outside
+readingAs s i readings (Found.On c) = Quarter.Outside
+readingAs s i readings (Found.NotWritten link) = Quarter.Read (fillOf (s .first) (s .step) (i .0)) false
+readingAs s i readings Found.Written = Quarter.Read (getD readings (i .0) 0) true
 
-abbrev pub readingAt : State → Cell → Memory → Got
+abbrev pub readingAt : State → Cell → Memory → Quarter
 readingAt s i mem = readingAs s i (mem .readings) (lookedAt s (i .0) (mem .links) (mem .directory) (mem .pool))

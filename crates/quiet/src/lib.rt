@@ -8,7 +8,6 @@ use lanes::State;
 use numbers::Cell;
 use numbers::PROCESSES;
 use steps::Found;
-use steps::Got;
 
 // What a look at all the lanes shows.
 pub enum Scan {
@@ -17,6 +16,14 @@ pub enum Scan {
     // Some operation is under way.
     AtWork,
     AtRest,
+}
+
+// What is read of a cell.
+pub enum Quarter {
+    // A word of its check lies outside its memory.
+    Outside,
+    // Its reading, and whether it is written.
+    Read(u32, bool),
 }
 
 pub fn scan_of(s: State) -> Scan
@@ -105,18 +112,18 @@ pub fn looked_at(s: State, i: Cell, links: &[u64], directory: &[u32], pool: &[u3
     onward(s, i, links, directory, pool, c)
 }
 
-fn reading_as(s: State, i: Cell, readings: &[u32], found: Found) -> Got
+fn reading_as(s: State, i: Cell, readings: &[u32], found: Found) -> Quarter
     ensures { λ r. ⌜ r ≡ readingAs s i (now (readings .entry)) found ⌝ }
 {
     match found {
-        Found::Outside => Got::Outside,
-        Found::On(_) => Got::Outside,
-        Found::NotWritten(_) => Got::Word(numbers::fill(s.first, s.step, i)),
-        Found::Written => Got::Word(steps::look::word(readings, i.0 as usize)),
+        Found::Outside => Quarter::Outside,
+        Found::On(_) => Quarter::Outside,
+        Found::NotWritten(_) => Quarter::Read(numbers::fill(s.first, s.step, i), false),
+        Found::Written => Quarter::Read(steps::look::word(readings, i.0 as usize), true),
     }
 }
 
-// The reading of cell i, by the filling rule where it is not written; or that a word of its check lies outside.
+// The read of cell i, run to its end: by the filling rule where it is not written.
 pub fn reading_at(
     s: State,
     i: Cell,
@@ -124,7 +131,7 @@ pub fn reading_at(
     links: &[u64],
     directory: &[u32],
     pool: &[u32],
-) -> Got
+) -> Quarter
     ensures { λ r. ⌜ r ≡ readingAt s i (memory (now (readings .entry)) (now (links .entry)) (now (directory .entry)) (now (pool .entry))) ⌝ }
 {
     let found = looked_at(s, i, links, directory, pool);

@@ -6,48 +6,38 @@ use Prim.Native.Nat.{ℕ, _+_, _*_, _/_, _<_, _≤_}
 use borrow.Author.Tests.{lt-ltb, le-ltb}
 use Rattle.refusals.specs.declared.Refusal.the-variants as Refusal
 use Rattle.lanes.specs.declared.State.{State}
-use Rattle.steps.specs.declared.Got.{Got}
 use Rattle.steps.specs.Memory.{Memory}
 use Rattle.grid.specs.Calls.{lengthsFit}
+use Rattle.quiet.specs.declared.Quarter.{Quarter}
 use Rattle.quiet.specs.declared.Scan.{Scan}
 use Rattle.quiet.specs.Quiet.{unfit, atWork, readingAt, scanOf}
-use Rattle.summary.specs.declared.Hour.{Hour}
 use Rattle.summary.specs.declared.Summary.{Summary}
 use Rattle.summary.specs.declared.Summary.the-variants as Summary
-use Rattle.summary.specs.Summary.{greater, outside, wordOf, hourOf, summaryAs, cellAt, quarters, summaryOf}
+use Rattle.summary.specs.Summary.{outside, cellAt, fourFrom, quarters, writtenAmong, summaryOf}
+use Rattle.summary.specs.Inner.{summed, summaryAs, four}
 
-pub second-greater : (a b : ℕ) → a < b → b ≡ greater a b
-second-greater a b h = simp (lt-ltb _ _ h)
-
-pub first-greater : (a b : ℕ) → b ≤ a → a ≡ greater a b
-first-greater a b h = simp (le-ltb _ _ h)
-
-pub hour-is : (a b c d x y z : ℕ) → x ≡ greater a b → y ≡ greater c d → z ≡ greater x y
-    → record { peak = z; mean = (a + b + c + d) / 4 } ≡ hourOf a b c d
-hour-is a b c d x y z e f g = rw (g, e, f)
-
-module _ (a b c d : Got) (p : Bool) (e : p ≡ outside a) where
-  pub first-outside : p ≡ true → Summary.Refused Refusal.OutOfRange ≡ summaryAs a b c d
+module _ (a b c d : Quarter) (p : Bool) (e : p ≡ outside a) where
+  pub first-outside : p ≡ true → Summary.Refused Refusal.OutOfRange ≡ summaryAs (four a b c d)
   first-outside h = simp (sym e ∙ h)
 
   module _ (h : p ≡ false) (q : Bool) (f : q ≡ outside b) where
-    pub second-outside : q ≡ true → Summary.Refused Refusal.OutOfRange ≡ summaryAs a b c d
+    pub second-outside : q ≡ true → Summary.Refused Refusal.OutOfRange ≡ summaryAs (four a b c d)
     second-outside k = simp (sym e ∙ h, sym f ∙ k)
 
     module _ (i : q ≡ false) (r : Bool) (g : r ≡ outside c) where
-      pub third-outside : r ≡ true → Summary.Refused Refusal.OutOfRange ≡ summaryAs a b c d
+      pub third-outside : r ≡ true → Summary.Refused Refusal.OutOfRange ≡ summaryAs (four a b c d)
       third-outside k = simp (sym e ∙ h, sym f ∙ i, sym g ∙ k)
 
       module _ (j : r ≡ false) (s : Bool) (u : s ≡ outside d) where
-        pub fourth-outside : s ≡ true → Summary.Refused Refusal.OutOfRange ≡ summaryAs a b c d
+        pub fourth-outside : s ≡ true → Summary.Refused Refusal.OutOfRange ≡ summaryAs (four a b c d)
         fourth-outside k = simp (sym e ∙ h, sym f ∙ i, sym g ∙ j, sym u ∙ k)
 
-        pub none-outside : (w x y z : ℕ) (t : Hour) → s ≡ false → w ≡ wordOf a → x ≡ wordOf b → y ≡ wordOf c → z ≡ wordOf d → t ≡ hourOf w x y z
-            → Summary.Of t ≡ summaryAs a b c d
-        none-outside w x y z t k l m n o v = simp (sym e ∙ h, sym f ∙ i, sym g ∙ j, sym u ∙ k) (ap Summary.Of (v ∙ rw (l, m, n, o)))
+        pub none-outside : (t : Summary) → s ≡ false → t ≡ summed (writtenAmong (four a b c d)) → t ≡ summaryAs (four a b c d)
+        none-outside t k l = simp (sym e ∙ h, sym f ∙ i, sym g ∙ j, sym u ∙ k) l
 
-pub quarters-are : (s : State) (i : ℕ) (mem : Memory) (a b c d : Got) (r : Summary) → a ≡ readingAt s (cellAt i) mem → b ≡ readingAt s (cellAt (i + 1)) mem
-    → c ≡ readingAt s (cellAt (i + 2)) mem → d ≡ readingAt s (cellAt (i + 3)) mem → r ≡ summaryAs a b c d → r ≡ quarters s i mem
+pub quarters-are : (s : State) (i : ℕ) (mem : Memory) (a b c d : Quarter) (r : Summary) → a ≡ readingAt s (cellAt i) mem → b ≡ readingAt s (cellAt (i + 1)) mem
+    → c ≡ readingAt s (cellAt (i + 2)) mem → d ≡ readingAt s (cellAt (i + 3)) mem → r ≡ summaryAs (four a b c d)
+    → r ≡ summaryAs (quarters s mem (fourFrom i))
 quarters-are s i mem a b c d r e f g h k = k ∙ rw (e, f, g, h)
 
 module _ (s : State) (h : ℕ) (mem : Memory) (v : Scan) (e : v ≡ scanOf s) (u : Bool) (f : u ≡ unfit v) where
@@ -79,6 +69,6 @@ module _ (s : State) (h : ℕ) (mem : Memory) (v : Scan) (e : v ≡ scanOf s) (u
         unfolding summaryOf
         summary-5 k = simp (fit, lengths, rest, le-ltb _ _ k)
 
-        pub summary-of : (r : Summary) → h < s .m / 4 → r ≡ quarters s (4 * h) mem → r ≡ summaryOf s h mem
+        pub summary-of : (r : Summary) → h < s .m / 4 → r ≡ summaryAs (quarters s mem (fourFrom (4 * h))) → r ≡ summaryOf s h mem
         unfolding summaryOf
         summary-of r k x = simp (fit, lengths, rest, lt-ltb _ _ k) x

@@ -1,2 +1,3 @@
 pub mod Summary
+pub mod Inner
 pub mod Claims

@@ -1,22 +1,33 @@
-// The hour summary: peak and mean of the four quarters of an hour, on a grid at rest.
+// The hour summary: peak and mean of the written quarters of an hour, and how many they are, on a grid at rest.
 ghost use mathlib.Core.Path.{_≡_};
-ghost use Prim.Native.Nat.{_+_, _<_};
+ghost use Prim.Native.Nat.{_+_, _/_, _<_};
 ghost use Rattle.steps.specs.Memory.{memory};
-ghost use Rattle.summary.specs.Summary.{greater, outside, wordOf, hourOf, summaryAs, quarters, summaryOf};
+ghost use Rattle.quiet.specs.declared.Quarter.the-variants as Quarter;
+ghost use Rattle.summary.specs.Summary.{greater, outside, fourFrom, quarters, writtenAmong, summaryOf};
+ghost use Rattle.summary.specs.Inner.{Few, Counts, Mean, hourFrom, summed, summaryAs, four};
 use grid::opens;
 use lanes::State;
 use numbers::Cell;
+use quiet::Quarter;
 use refusals::Refusal;
-use steps::Got;
 
 pub struct Hour {
     pub peak: u32,
     pub mean: u32,
+    // How many of the four quarters are written.
+    pub count: u32,
 }
 
 pub enum Summary {
     Of(Hour),
     Refused(Refusal),
+}
+
+// What is kept of the written quarters. The sum of four readings needs 34 bits.
+struct Tally {
+    count: u32,
+    sum: u64,
+    peak: u32,
 }
 
 fn greater(a: u32, b: u32) -> u32
@@ -25,38 +36,77 @@ fn greater(a: u32, b: u32) -> u32
     if a < b { b } else { a }
 }
 
-// The sum of four readings needs 34 bits.
-fn hour_of(a: u32, b: u32, c: u32, d: u32) -> Hour
-    ensures { λ r. ⌜ r ≡ hourOf a b c d ⌝ }
+fn added(t: Tally, v: u32, written: bool) -> Tally
+    requires { ⌜ Few 3 t ⌝ }
+    ensures { λ r. ⌜ Counts t (Quarter.Read v written) r ⌝ }
 {
-    let sum = a as u64 + b as u64 + c as u64 + d as u64;
-    let mean = (sum / 4) as u32;
+    if written {
+        Tally {
+            count: t.count + 1,
+            sum: t.sum + v as u64,
+            peak: greater(t.peak, v),
+        }
+    } else {
+        t
+    }
+}
+
+// One quarter more, which counts if it is written.
+fn counted(t: Tally, q: Quarter) -> Tally
+    requires { ⌜ Few 3 t ⌝ }
+    ensures { λ r. ⌜ Counts t q r ⌝ }
+{
+    match q {
+        Quarter::Outside => t,
+        Quarter::Read(v, written) => added(t, v, written),
+    }
+}
+
+fn mean_of(sum: u64, count: u32) -> u32
+    requires { ⌜ Mean sum count ⌝ }
+    ensures { λ r. ⌜ r ≡ sum / count ⌝ }
+{
+    (sum / count as u64) as u32
+}
+
+fn hour_of(t: Tally) -> Hour
+    requires { ⌜ Mean (t .sum) (t .count) ⌝ }
+    ensures { λ r. ⌜ r ≡ hourFrom t ⌝ }
+{
     Hour {
-        peak: greater(greater(a, b), greater(c, d)),
-        mean: mean,
+        peak: t.peak,
+        mean: mean_of(t.sum, t.count),
+        count: t.count,
     }
 }
 
-fn outside(g: Got) -> bool
-    ensures { λ r. ⌜ r ≡ outside g ⌝ }
+fn summed(a: Quarter, b: Quarter, c: Quarter, d: Quarter) -> Summary
+    ensures { λ r. ⌜ r ≡ summed (writtenAmong (four a b c d)) ⌝ }
 {
-    match g {
-        Got::Outside => true,
-        Got::Word(_) => false,
+    let none = Tally {
+        count: 0,
+        sum: 0,
+        peak: 0,
+    };
+    let t = counted(counted(counted(counted(none, d), c), b), a);
+    if t.count == 0 {
+        return Summary::Refused(Refusal::NothingWritten);
     }
+    Summary::Of(hour_of(t))
 }
 
-fn word_of(g: Got) -> u32
-    ensures { λ r. ⌜ r ≡ wordOf g ⌝ }
+fn outside(q: Quarter) -> bool
+    ensures { λ r. ⌜ r ≡ outside q ⌝ }
 {
-    match g {
-        Got::Outside => 0,
-        Got::Word(v) => v,
+    match q {
+        Quarter::Outside => true,
+        Quarter::Read(_, _) => false,
     }
 }
 
-fn summary_as(a: Got, b: Got, c: Got, d: Got) -> Summary
-    ensures { λ r. ⌜ r ≡ summaryAs a b c d ⌝ }
+// All four are looked at before it is said that none is written.
+fn summary_as(a: Quarter, b: Quarter, c: Quarter, d: Quarter) -> Summary
+    ensures { λ r. ⌜ r ≡ summaryAs (four a b c d) ⌝ }
 {
     if outside(a) {
         return Summary::Refused(Refusal::OutOfRange);
@@ -70,7 +120,7 @@ fn summary_as(a: Got, b: Got, c: Got, d: Got) -> Summary
     if outside(d) {
         return Summary::Refused(Refusal::OutOfRange);
     }
-    Summary::Of(hour_of(word_of(a), word_of(b), word_of(c), word_of(d)))
+    summed(a, b, c, d)
 }
 
 fn quarters(
@@ -82,7 +132,7 @@ fn quarters(
     pool: &[u32],
 ) -> Summary
     requires { ⌜ i + 3 < 4294967296 ⌝ }
-    ensures { λ r. ⌜ r ≡ quarters s i (memory (now (readings .entry)) (now (links .entry)) (now (directory .entry)) (now (pool .entry))) ⌝ }
+    ensures { λ r. ⌜ r ≡ summaryAs (quarters s (memory (now (readings .entry)) (now (links .entry)) (now (directory .entry)) (now (pool .entry))) (fourFrom i)) ⌝ }
 {
     let a = quiet::reading_at(s, Cell(i), readings, links, directory, pool);
     let b = quiet::reading_at(s, Cell(i + 1), readings, links, directory, pool);

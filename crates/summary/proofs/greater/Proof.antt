@@ -1,6 +1,6 @@
 -- `summary::greater` meets its contract.
 -- Assumes nothing.
-use Rattle.summary.proofs.SummaryLaws.{second-greater, first-greater}
+use Rattle.summary.proofs.TallyLaws.{second-greater, first-greater}
 use Rattle.summary.proofs.greater.Statement.{statement}
 use Rattle.summary.proofs.greater.Tie as tie
 

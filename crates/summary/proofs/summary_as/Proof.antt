@@ -29,20 +29,8 @@ outside-requires-4 c κs = search needs
 returns-4 : tie.Need-returns-4
 returns-4 c = search (fourth-outside)
 
-word-of-requires : tie.Need-word-of-requires
-word-of-requires c κs = search needs
-
-word-of-requires-2 : tie.Need-word-of-requires-2
-word-of-requires-2 c κs = search needs
-
-word-of-requires-3 : tie.Need-word-of-requires-3
-word-of-requires-3 c κs = search needs
-
-word-of-requires-4 : tie.Need-word-of-requires-4
-word-of-requires-4 c κs = search needs
-
-hour-of-requires : tie.Need-hour-of-requires
-hour-of-requires c κs = search needs
+summed-requires : tie.Need-summed-requires
+summed-requires c κs = search needs
 
 returns-5 : tie.Need-returns-5
 returns-5 c = search (none-outside)
@@ -59,9 +47,5 @@ summary-as-spec =
     returns-3
     outside-requires-4
     returns-4
-    word-of-requires
-    word-of-requires-2
-    word-of-requires-3
-    word-of-requires-4
-    hour-of-requires
+    summed-requires
     returns-5)
