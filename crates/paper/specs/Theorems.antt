@@ -11,8 +11,7 @@ use Rattle.lanes.specs.declared.State.{State}
 use Rattle.steps.specs.Memory.{Memory}
 use Rattle.steps.specs.declared.Found.{Found}
 use Rattle.steps.specs.declared.Found.the-variants as Found
-use Rattle.steps.specs.declared.Got.{Got}
-use Rattle.steps.specs.declared.Got.the-variants as Got
+use Rattle.quiet.specs.declared.Quarter.the-variants as Quarter
 use Rattle.quiet.specs.Quiet.{lookedAt, readingAs, readingAt}
 use Rattle.summary.specs.Summary.{cellAt}
 use Rattle.planners_text.specs.PlannersText.{written, foundAt, heldAt}
@@ -26,7 +25,7 @@ use Rattle.resting.specs.Theorems.{shown-at-rest}
 use Rattle.paper.specs.OnPaper.{arrayBelow, OnPaper}
 
 -- a cell that tells whether it is written, and whose reading is v where it is, has the array's row
-row-is : (s : State) (i : ℕ) (mem : Memory) (f : Found) (t : Bool) (v : ℕ) → Tells f t → readingAs s (cellAt i) (mem .readings) f ≡ Got.Word v
+row-is : (s : State) (i : ℕ) (mem : Memory) (f : Found) (t : Bool) (v : ℕ) → Tells f t → readingAs s (cellAt i) (mem .readings) f ≡ Quarter.Read v t
     → writtenAs i (heldAt mem i) f ≡ pick t (row i v ∷ []) []
 row-is s i mem Found.Outside t v h e = absurd h
 row-is s i mem (Found.On c) t v h e = absurd h

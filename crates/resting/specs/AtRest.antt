@@ -1,19 +1,21 @@
 -- After any calls, with no operation under way: what is found of each cell is what the array of demand 2 holds in the end, and
--- the hour summary is computed from that.
+-- the hour summary is over exactly the cells that the array has a write of.
 -- Assumes nothing.
 use Prim.Native.Nat.{ℕ, _+_, _*_, _/_, _≤_, _<_}
 use mathlib.Core.Path.{_≡_}
 use mathlib.Core.Bool.{Bool, true, false}
-use mathlib.Core.List.{List, List·Memᴰ}
+use mathlib.Core.Logic.{_⊎_, _≢_}
+use mathlib.Core.List.{List, [], _∷_, List·Memᴰ}
+use Rattle.refusals.specs.Orders.{pick}
+use Rattle.refusals.specs.declared.Refusal.{Refusal}
 use Rattle.refusals.specs.declared.Refusal.the-variants as Refusal
 use Rattle.steps.specs.declared.Found.{Found}
 use Rattle.steps.specs.declared.Found.the-variants as Found
-use Rattle.steps.specs.declared.Got.the-variants as Got
+use Rattle.quiet.specs.declared.Quarter.the-variants as Quarter
 use Rattle.quiet.specs.declared.Scan.the-variants as Scan
 use Rattle.quiet.specs.Quiet.{scanOf, lookedAt, readingAt}
-use Rattle.summary.specs.declared.Hour.{Hour}
 use Rattle.summary.specs.declared.Summary.the-variants as Summary
-use Rattle.summary.specs.Summary.{hourOf, cellAt, summaryOf}
+use Rattle.summary.specs.Summary.{hourOf, fourFrom, cellAt, summaryOf}
 use Rattle.theory.specs.Interface.{Done, Entry, Is, valueIn, writtenIn}
 use Rattle.demands.specs.Book.{nothing, Run}
 use Rattle.demands.specs.Demand2.{OneOrder}
@@ -33,19 +35,31 @@ Tells Found.Written t = t ≡ true
 abbrev pub looked : Run → ℕ → Found
 looked r i = lookedAt (r .world .state) i (r .world .memory .links) (r .world .memory .directory) (r .world .memory .pool)
 
--- Hour h of the array at the end of an order: cells 4h to 4h + 3.
-abbrev pub hourIn : (ℕ → ℕ) → List Entry → ℕ → Hour
-hourIn f order h =
-    hourOf (valueIn f order (4 * h)) (valueIn f order (4 * h + 1)) (valueIn f order (4 * h + 2)) (valueIn f order (4 * h + 3))
+-- The array's values, at the end of an order, of those of the cells that a write precedes.
+abbrev pub valuesOf : (ℕ → ℕ) → List Entry → List ℕ → List ℕ
+valuesOf f order [] = []
+valuesOf f order (i ∷ is) = pick (writtenIn order i) (valueIn f order i ∷ valuesOf f order is) (valuesOf f order is)
+
+-- Hour h of the array: cells 4h to 4h + 3.
+abbrev pub hourIn : (ℕ → ℕ) → List Entry → ℕ → List ℕ
+hourIn f order h = valuesOf f order (fourFrom (4 * h))
+
+-- A refusal of the summary of hour h: 5 for an hour that is not there, 18 for one of which no value is written.
+abbrev pub FiveOrEighteen : ℕ → ℕ → List ℕ → Refusal → Type 0
+FiveOrEighteen m h values r = ((m / 4 ≤ h) × (r ≡ Refusal.NoSuchCell)) ⊎ ((h < m / 4) × (values ≡ []) × (r ≡ Refusal.NothingWritten))
 
 -- What a run at rest shows, of m cells filled at first by f. There is one order, as demand 2 has it, and all in it have finished.
 -- `written`, `reading`: each cell is found written exactly if the array has a write of it in that order, and its reading is the
--- array's value. `hours`: so the summary is of the array's values; the one refusal left is 5, an hour that is not there.
+-- array's value. `hours`: so the summary is of the array's values of the written cells. The refusals left are `nothing`: 18, if none
+-- of the four is written; and `no-hour`: 5, an hour that is not there.
 pub record Shown (m : ℕ) (f : ℕ → ℕ) (r : Run) : Type 0 where
   pub one-order : OneOrder f (r .book)
   pub finished : (e : Entry) → List·Memᴰ e (one-order .order) → (d : Done) × List·Memᴰ d (r .book .ended) × Is e d
   pub written : (i : ℕ) → i < m → Tells (looked r i) (writtenIn (one-order .order) i)
-  pub reading : (i : ℕ) → i < m → readingAt (r .world .state) (cellAt i) (r .world .memory) ≡ Got.Word (valueIn f (one-order .order) i)
+  pub reading : (i : ℕ) → i < m → readingAt (r .world .state) (cellAt i) (r .world .memory) ≡ Quarter.Read (valueIn f (one-order .order) i) (writtenIn (one-order .order) i)
   pub scan : scanOf (r .world .state) ≡ Scan.AtRest
-  pub hours : (h : ℕ) → h < m / 4 → summaryOf (r .world .state) h (r .world .memory) ≡ Summary.Of (hourIn f (one-order .order) h)
+  pub hours : (h : ℕ) → h < m / 4 → hourIn f (one-order .order) h ≢ []
+      → summaryOf (r .world .state) h (r .world .memory) ≡ Summary.Of (hourOf (hourIn f (one-order .order) h))
+  pub nothing : (h : ℕ) → h < m / 4 → hourIn f (one-order .order) h ≡ []
+      → summaryOf (r .world .state) h (r .world .memory) ≡ Summary.Refused Refusal.NothingWritten
   pub no-hour : (h : ℕ) → m / 4 ≤ h → summaryOf (r .world .state) h (r .world .memory) ≡ Summary.Refused Refusal.NoSuchCell

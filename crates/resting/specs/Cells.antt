@@ -16,7 +16,7 @@ use Rattle.lanes.specs.Ranges.{laneOf}
 use Rattle.steps.specs.Memory.{Memory}
 use Rattle.steps.specs.declared.Found.{Found}
 use Rattle.steps.specs.declared.Found.the-variants as Found
-use Rattle.steps.specs.declared.Got.the-variants as Got
+use Rattle.quiet.specs.declared.Quarter.the-variants as Quarter
 use Rattle.steps.specs.Steps.{startOf}
 use Rattle.quiet.specs.Quiet.{lookedAt, readingAs, readingAt}
 use Rattle.summary.specs.Summary.{cellAt}
@@ -95,12 +95,15 @@ module _ {s : State} {mem : Memory} {b : Book} (H : Good s mem b) (rest : (q : �
     tells-array (Theory.unwritten w v other) = subst (λ (f : Found). Tells f (Theory.writtenIn order i)) (sym (found-unwritten other)) w
     tells-array (Theory.written w v hr hn e) = subst (λ (f : Found). Tells f (Theory.writtenIn order i)) (sym (found-written hr hn e)) w
 
-    reads-array : Theory.CellAtRest (H .whole) i → readingAt s (cellAt i) mem ≡ Got.Word (Theory.valueIn (fillOf (s .first) (s .step)) order i)
-    reads-array (Theory.unwritten w v other) = ap (readingAs s (cellAt i) (mem .readings)) (found-unwritten other) ∙ ap Got.Word (sym v)
-    reads-array (Theory.written w v hr hn e) = ap (readingAs s (cellAt i) (mem .readings)) (found-written hr hn e) ∙ ap Got.Word (sym v)
+    abbrev Reads : Type 0
+    Reads = readingAt s (cellAt i) mem ≡ Quarter.Read (Theory.valueIn (fillOf (s .first) (s .step)) order i) (Theory.writtenIn order i)
+
+    reads-array : Theory.CellAtRest (H .whole) i → Reads
+    reads-array (Theory.unwritten w v other) = ap (readingAs s (cellAt i) (mem .readings)) (found-unwritten other) ∙ rw (v, w)
+    reads-array (Theory.written w v hr hn e) = ap (readingAs s (cellAt i) (mem .readings)) (found-written hr hn e) ∙ rw (v, w)
 
     pub written-shown : Tells finds (Theory.writtenIn order i)
     written-shown = tells-array (Theory.cell-at-rest (H .whole) still i hi)
 
-    pub reading-shown : readingAt s (cellAt i) mem ≡ Got.Word (Theory.valueIn (fillOf (s .first) (s .step)) order i)
+    pub reading-shown : Reads
     reading-shown = reads-array (Theory.cell-at-rest (H .whole) still i hi)

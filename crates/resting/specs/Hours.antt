@@ -1,11 +1,16 @@
--- In a good state with no operation under way: the scan finds it at rest, and the hour summary is of the array's values.
+-- In a good state with no operation under way: the scan finds it at rest, and the hour summary is of the array's values of the written cells.
 -- Assumes nothing.
 use Prim.Native.Nat.{ℕ, _+_, _*_, _/_, _≤_, _<_}
-use mathlib.Core.Path.{_≡_, ap}
+use mathlib.Core.Path.{_≡_, refl, ap, _∙_}
 use mathlib.Core.Bool.{true}
+use mathlib.Core.Logic.{_≢_}
+use mathlib.Core.List.{List, [], _∷_}
 use native.Mathlib.Omega.{arith}
-use borrow.Author.Tests.{lt-ltb, le-ltb}
+use borrow.Author.Tests.{lt-ltb, le-ltb, ne-eqb}
+use lib.Dec.{eqb}
+use lib.ListN.{length}
 use Rattle.numbers.specs.Numbers.{fillOf}
+use Rattle.refusals.specs.Orders.{pick}
 use Rattle.refusals.specs.declared.Refusal.the-variants as Refusal
 use Rattle.lanes.specs.declared.State.{State}
 use Rattle.lanes.specs.Ranges.{laneOf, idle}
@@ -13,8 +18,9 @@ use Rattle.lanes.specs.Laws.{below-all}
 use Rattle.steps.specs.Memory.{Memory}
 use Rattle.quiet.specs.declared.Scan.the-variants as Scan
 use Rattle.quiet.specs.Quiet.{atRest, scanOf}
+use Rattle.summary.specs.declared.Summary.{Summary}
 use Rattle.summary.specs.declared.Summary.the-variants as Summary
-use Rattle.summary.specs.Summary.{summaryOf}
+use Rattle.summary.specs.Summary.{hourOf, summaryOf}
 use Rattle.demands.specs.Book.{nothing, Book}
 use Rattle.demands.specs.Agrees.{LaneAgrees}
 use Rattle.demands.specs.Good.{Good, lengths-fit, state-fits}
@@ -31,9 +37,16 @@ module _ {s : State} {mem : Memory} {b : Book} (H : Good s mem b) (rest : (q : �
   pub scan-shown : scanOf s ≡ Scan.AtRest
   scan-shown = rw (state-fits H, at-rest)
 
-  pub hours-shown : (h : ℕ) → h < s .m / 4 → summaryOf s h mem ≡ Summary.Of (hourIn (fillOf (s .first) (s .step)) (order H rest) h)
+  abbrev values : ℕ → List ℕ
+  values h = hourIn (fillOf (s .first) (s .step)) (order H rest) h
+
+  -- the order of refusals from 18 on
+  abbrev from-18 : List ℕ → Summary
+  from-18 vs = pick (eqb (length vs) 0) (Summary.Refused Refusal.NothingWritten) (Summary.Of (hourOf vs))
+
+  hour-shown : (h : ℕ) → h < s .m / 4 → summaryOf s h mem ≡ from-18 (values h)
   unfolding summaryOf
-  hours-shown h hh =
+  hour-shown h hh =
       rw (
         scan-shown,
         lengths-fit (H .lengths),
@@ -43,6 +56,16 @@ module _ {s : State} {mem : Memory} {b : Book} (H : Good s mem b) (rest : (q : �
         reading-shown H rest (4 * h + 2) (omega arith),
         reading-shown H rest (4 * h + 3) (omega arith),
       )
+
+  pub hours-shown : (h : ℕ) → h < s .m / 4 → values h ≢ [] → summaryOf s h mem ≡ Summary.Of (hourOf (values h))
+  hours-shown h hh some = hour-shown h hh ∙ by (values h) some
+    where
+      by : (vs : List ℕ) → vs ≢ [] → from-18 vs ≡ Summary.Of (hourOf vs)
+      by [] n = absurd (n refl)
+      by (v ∷ vs) n = rw (ne-eqb (length (v ∷ vs)) 0 (λ x. let y : ⊥ = omega arith in y))
+
+  pub nothing-shown : (h : ℕ) → h < s .m / 4 → values h ≡ [] → summaryOf s h mem ≡ Summary.Refused Refusal.NothingWritten
+  nothing-shown h hh none = hour-shown h hh ∙ ap from-18 none
 
   pub no-hour-shown : (h : ℕ) → s .m / 4 ≤ h → summaryOf s h mem ≡ Summary.Refused Refusal.NoSuchCell
   unfolding summaryOf

@@ -1,8 +1,9 @@
 -- The theorems, for all numbers, every memory that open accepts, and all calls after which no operation is under way.
 -- Assumes nothing.
-use Prim.Native.Nat.{ℕ, _/_, _<_}
-use mathlib.Core.Path.{_≡_}
-use mathlib.Core.List.{List}
+use Prim.Native.Nat.{ℕ, _/_, _≤_, _<_}
+use mathlib.Core.Path.{_≡_, refl}
+use mathlib.Core.Logic.{inl, inr, _≢_}
+use mathlib.Core.List.{List, [], _∷_}
 use native.Mathlib.Decide.{decLt}
 use native.Mathlib.Omega.{arith}
 use Rattle.numbers.specs.Numbers.{fillOf}
@@ -10,18 +11,18 @@ use Rattle.refusals.specs.declared.Refusal.{Refusal}
 use Rattle.refusals.specs.declared.Refusal.the-variants as Refusal
 use Rattle.lanes.specs.declared.State.{State}
 use Rattle.steps.specs.Memory.{Memory}
-use Rattle.steps.specs.declared.Got.the-variants as Got
+use Rattle.quiet.specs.declared.Quarter.the-variants as Quarter
 use Rattle.quiet.specs.declared.Scan.the-variants as Scan
 use Rattle.quiet.specs.Quiet.{scanOf, readingAt}
 use Rattle.summary.specs.declared.Summary.the-variants as Summary
-use Rattle.summary.specs.Summary.{cellAt, summaryOf}
+use Rattle.summary.specs.Summary.{hourOf, cellAt, summaryOf}
 use Rattle.theory.specs.Interface.{Entry, valueIn, writtenIn}
 use Rattle.demands.specs.Calls.{Call, Accepted}
 use Rattle.demands.specs.Book.{Run}
 use Rattle.demands.specs.Views.{GoodRun}
 use Rattle.demands.specs.Runs.{with-numbers, after-any-calls}
 use Rattle.demands.specs.Theorems.{after}
-use Rattle.resting.specs.AtRest.{Resting, Tells, looked, hourIn, Shown}
+use Rattle.resting.specs.AtRest.{Resting, Tells, looked, hourIn, FiveOrEighteen, Shown}
 use Rattle.resting.specs.Cells as Cells
 use Rattle.resting.specs.Hours as Hours
 
@@ -33,6 +34,7 @@ good-shows r H rest = record {
   reading = Cells.reading-shown H rest;
   scan = Hours.scan-shown H rest;
   hours = Hours.hours-shown H rest;
+  nothing = Hours.nothing-shown H rest;
   no-hour = Hours.no-hour-shown H rest;
 }
 
@@ -58,16 +60,29 @@ module _ (p m first stride : ℕ) (mem : Memory) (ok : Accepted p m first stride
     pub written-at-rest : (i : ℕ) → i < m → Tells (looked (after p m first stride mem ok calls) i) (writtenIn order i)
     written-at-rest = shown-at-rest rest .written
 
-    pub reading-at-rest : (i : ℕ) → i < m → readingAt state (cellAt i) memory ≡ Got.Word (valueIn (fillOf first stride) order i)
+    pub reading-at-rest : (i : ℕ) → i < m → readingAt state (cellAt i) memory ≡ Quarter.Read (valueIn (fillOf first stride) order i) (writtenIn order i)
     reading-at-rest = shown-at-rest rest .reading
 
-    pub summary-at-rest : (h : ℕ) → h < m / 4 → summaryOf state h memory ≡ Summary.Of (hourIn (fillOf first stride) order h)
+    -- the array's values of the written cells of hour h
+    abbrev pub values : ℕ → List ℕ
+    values h = hourIn (fillOf first stride) order h
+
+    pub summary-at-rest : (h : ℕ) → h < m / 4 → values h ≢ [] → summaryOf state h memory ≡ Summary.Of (hourOf (values h))
     summary-at-rest = shown-at-rest rest .hours
 
+    pub nothing-at-rest : (h : ℕ) → h < m / 4 → values h ≡ [] → summaryOf state h memory ≡ Summary.Refused Refusal.NothingWritten
+    nothing-at-rest = shown-at-rest rest .nothing
+
+    pub no-hour-at-rest : (h : ℕ) → m / 4 ≤ h → summaryOf state h memory ≡ Summary.Refused Refusal.NoSuchCell
+    no-hour-at-rest = shown-at-rest rest .no-hour
+
     -- 9 (state), 8, 10 and 9 (word) do not occur.
-    pub refused-with-five-alone : (h : ℕ) (r : Refusal) → summaryOf state h memory ≡ Summary.Refused r → r ≡ Refusal.NoSuchCell
-    refused-with-five-alone h r e = by (decLt h (m / 4))
+    pub refused-with-five-or-eighteen : (h : ℕ) (r : Refusal) → summaryOf state h memory ≡ Summary.Refused r → FiveOrEighteen m h (values h) r
+    refused-with-five-or-eighteen h r e = by (decLt h (m / 4)) (values h) refl
       where
-        by : Dec (h < m / 4) → r ≡ Refusal.NoSuchCell
-        by (yes k) = let z = summary-at-rest h k in absurd (let y : _≡_ {A = ℕ} 0 1 = cc in omega arith)
-        by (no k) = let z = shown-at-rest rest .no-hour h (omega arith) in cc
+        by : Dec (h < m / 4) → (vs : List ℕ) → values h ≡ vs → FiveOrEighteen m h (values h) r
+        by (no k) vs y = let z = no-hour-at-rest h (omega arith) in inl (omega arith, cc)
+        by (yes k) [] y = let z = nothing-at-rest h k y in inr (k, y, cc)
+        by (yes k) (v ∷ vs) y =
+            let z = summary-at-rest h k (λ x. absurd (let u : _≡_ {A = ℕ} 0 1 = cc in omega arith)) in
+            absurd (let u : _≡_ {A = ℕ} 0 1 = cc in omega arith)
