@@ -7,6 +7,7 @@ import sys
 from collections import Counter
 
 import calls
+import grid
 import planners
 import vectors
 from made import MOST_LENGTHS
@@ -24,7 +25,7 @@ ENDS = (1, 2, 4, 5, 6, 7, 9, 14, 20, 21)
 GOES = (1, 2, 3, 4, 6, 7, 8, 10, 11, 12, 13, 14, 15, 16, 17, 18, 19, 20)
 NINE = (1, 2, 3, 4, 6, 7, 8, 9, 10, 11, 12, 13, 14, 15, 16, 17, 18, 19, 20)
 REFUSALS = {"open": (1, 2, 3), "begin": (9, 4, 6, 5), "step": (9, 8, 4, 7),
-            "hour": (9, 8, 10, 5)}
+            "hour": (9, 8, 10, 5, 18)}
 HEADER_LINE, LONGEST_LINE = 14, 18  # bytes
 # What a planners' text can show, and the refusals that come before 17.
 TEXTS = ("empty", "one cell", "all cells", "the greatest reading", "a written 0", "exactly long enough", "bytes after the text",
@@ -36,7 +37,8 @@ EXPECTED = (
     + [f"{call}: refused {n}" for call, numbers in REFUSALS.items() for n in numbers]
     + [f"text: {what}" for what in TEXTS]
     + [f"text: {what} with{out} room" for what in TEXT_REFUSALS for out in ("", "out")]
-    + ["hour: 9 (word)", "hour: hour", "open: open", "begin: begun",
+    + [f"hour: {n} written" for n in (1, 2, 3, 4)]
+    + ["hour: 9 (word)", "9 (word) and 18 at once", "open: open", "begin: begun",
        "a large grid's step", "a lane at or above p that is not idle", "8 and 4 at once",
        "10 and 5 at once", "6 and 5 at once", "9 (state) and 8 at once", "1 and 3 at once"]
 )
@@ -79,6 +81,10 @@ def look(vector, seen):
         look_text(vector, answer, page, fits and right, seen)
     elif vector.call == "hour" and fits and right and answer == ("refused", 9):
         seen["hour: 9 (word)"] += 1
+        found = [grid.look(state, 4 * first + k, mem) for k in range(4)]
+        seen["9 (word) and 18 at once"] += "written" not in found
+    elif name == "hour":
+        seen[f"hour: {answer[3]} written"] += 1
     else:
         seen[f"{vector.call}: {' '.join(map(str, answer)) if name == 'refused' else name}"] += 1
     beyond = state.lanes[state.p:] if state.p <= 16 else ()

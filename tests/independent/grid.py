@@ -195,7 +195,7 @@ def word(memory, index):
 # --- Hour summary ----------------------------------------------------------
 
 def hour_summary(state, hour, mem):
-    """Hour summary: 9 (state), 8, 10, 5, 9 (word). Nothing changes."""
+    """Hour summary: 9 (state), 8, 10, 5, 9 (word), 18. Nothing changes."""
     if not state_fits(state):
         return refused(9, state)
     if not lengths_fit(state.p, state.m, mem):
@@ -204,17 +204,22 @@ def hour_summary(state, hour, mem):
         return refused(10, state)
     if hour >= state.m // 4:
         return refused(5, state)
-    try:
-        four = [looked_at(state, 4 * hour + k, mem) for k in range(4)]
-    except Outside:
+    cells = range(4 * hour, 4 * hour + 4)
+    found = [look(state, cell, mem) for cell in cells]
+    if "outside" in found:
         return refused(9, state)
-    return ("hour", max(four), sum(four) // 4), state
+    if "written" not in found:
+        return refused(18, state)
+    held = [word(mem.readings, i) for i, what in zip(cells, found) if what == "written"]
+    return ("hour", max(held), sum(held) // len(held), len(held)), state
 
 
-def looked_at(state, cell, mem):
-    """The reading of a written cell, else f(i)."""
-    written = is_written(state, cell, mem)
-    return word(mem.readings, cell) if written else filled(state, cell)
+def look(state, cell, mem):
+    """Whether a cell is written, or a word of its check lies outside."""
+    try:
+        return "written" if is_written(state, cell, mem) else "not written"
+    except Outside:
+        return "outside"
 
 
 def is_written(state, cell, mem):

@@ -83,7 +83,9 @@ def refusals():
     state, mem = opened(1, 1, 0)
     assert grid.hour_summary(state, 0, mem) == (("refused", 5), state)
     state, mem = opened(1, 4, 0, first=5, step=1)
-    assert grid.hour_summary(state, 0, mem) == (("hour", 8, 6), state)
+    assert grid.hour_summary(state, 0, mem) == (("refused", 18), state)
+    _, one = run(begun(state, 0, "write", 2, 400), mem, 0, 9)
+    assert grid.hour_summary(one, 0, mem) == (("hour", 400, 400, 1), one)
     state = begun(state, 0, "read", 0, 0)
     assert grid.hour_summary(state, 9, mem) == (("refused", 10), state)
 

@@ -46,6 +46,12 @@ HOUR_10 = """    if any(lane.op is not None for lane in state.lanes[:state.p]):
 HOUR_5 = """    if hour >= state.m // 4:
         return refused(5, state)
 """
+HOUR_9 = """    if "outside" in found:
+        return refused(9, state)
+"""
+HOUR_18 = """    if "written" not in found:
+        return refused(18, state)
+"""
 FILE_16 = """    if len(data) > LONGEST:
         raise FileRefused(16)
 """
@@ -169,9 +175,12 @@ MUTANTS = [
     exchanged("summary: 10 and 5 exchanged", CALLS, "grid.py", HOUR_10, HOUR_5),
     exchanged("begin: 6 and 5 exchanged", BOTH, "grid.py", BEGIN_6, BEGIN_5),
     # The summary.
-    one("a cell not written counts 0", CALLS, "grid.py",
-        "if written else filled(state, cell)", "if written else 0"),
-    one("the sum kept in 32 bits", CALLS, "grid.py", "sum(four) // 4", "sum(four) % 2**32 // 4"),
+    exchanged("summary: 9 (word) and 18 exchanged", CALLS, "grid.py", HOUR_9, HOUR_18),
+    one("a cell not written counts with f(i)", CALLS, "grid.py",
+        "[word(mem.readings, i) for i, what in zip(cells, found) if what == \"written\"]",
+        "[word(mem.readings, i) if what == \"written\" else filled(state, i) for i, what in zip(cells, found)]"),
+    one("the mean divided by four", CALLS, "grid.py", "sum(held) // len(held),", "sum(held) // 4,"),
+    one("the sum kept in 32 bits", CALLS, "grid.py", "sum(held) //", "sum(held) % 2**32 //"),
     one("a last part hour is answered", CALLS, "grid.py",
         "if hour >= state.m // 4:", "if 4 * hour >= state.m:"),
     # The file.

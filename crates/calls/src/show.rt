@@ -59,7 +59,8 @@ fn words_of(buf: &mut [u8], at: usize, a: Said) -> usize {
         Said::Told(a) => told(buf, at, a),
         Said::Hour(h) => {
             let e = out::bytes(buf, at, b"hour");
-            two(buf, e, h.peak as u64, h.mean as u64)
+            let e = two(buf, e, h.peak as u64, h.mean as u64);
+            out::next_number(buf, e, h.count as u64)
         }
         Said::Text(n) => {
             let e = out::bytes(buf, at, b"text");
