@@ -1,7 +1,7 @@
 -- After any calls, with no operation under way: what is found of each cell is what the array of demand 2 holds in the end, and
 -- the hour summary is over exactly the cells that the array has a write of.
 -- Assumes nothing.
-use Prim.Native.Nat.{ℕ, _+_, _*_, _/_, _≤_, _<_}
+use Prim.Native.Nat.{ℕ, _*_, _/_, _≤_, _<_}
 use mathlib.Core.Path.{_≡_}
 use mathlib.Core.Bool.{Bool, true, false}
 use mathlib.Core.Logic.{_⊎_, _≢_}

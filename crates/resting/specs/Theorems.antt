@@ -1,9 +1,9 @@
 -- The theorems, for all numbers, every memory that open accepts, and all calls after which no operation is under way.
 -- Assumes nothing.
 use Prim.Native.Nat.{ℕ, _/_, _≤_, _<_}
-use mathlib.Core.Path.{_≡_, refl}
+use mathlib.Core.Path.{_≡_, refl, ap, _∙_}
 use mathlib.Core.Logic.{inl, inr, _≢_}
-use mathlib.Core.List.{List, [], _∷_}
+use mathlib.Core.List.{List, [], _∷_, List·Memᴰ, List·Memᴰ·head, List·Memᴰ·not-nil}
 use native.Mathlib.Decide.{decLt}
 use native.Mathlib.Omega.{arith}
 use Rattle.numbers.specs.Numbers.{fillOf}
@@ -16,9 +16,11 @@ use Rattle.quiet.specs.declared.Scan.the-variants as Scan
 use Rattle.quiet.specs.Quiet.{scanOf, readingAt}
 use Rattle.summary.specs.declared.Summary.the-variants as Summary
 use Rattle.summary.specs.Summary.{hourOf, cellAt, summaryOf}
-use Rattle.theory.specs.Interface.{Entry, valueIn, writtenIn}
-use Rattle.demands.specs.Calls.{Call, Accepted}
-use Rattle.demands.specs.Book.{Run}
+use Rattle.theory.specs.Array.{written}
+use Rattle.theory.specs.Order.{deeds}
+use Rattle.theory.specs.Interface.{Done, Entry, Is, valueIn, writtenIn}
+use Rattle.demands.specs.Calls.{Call, Accepted, openedWorld}
+use Rattle.demands.specs.Book.{Run, run}
 use Rattle.demands.specs.Views.{GoodRun}
 use Rattle.demands.specs.Runs.{with-numbers, after-any-calls}
 use Rattle.demands.specs.Theorems.{after}
@@ -86,3 +88,21 @@ module _ (p m first stride : ℕ) (mem : Memory) (ok : Accepted p m first stride
         by (yes k) (v ∷ vs) y =
             let z = summary-at-rest h k (λ x. absurd (let u : _≡_ {A = ℕ} 0 1 = cc in omega arith)) in
             absurd (let u : _≡_ {A = ℕ} 0 1 = cc in omega arith)
+
+-- ---- a fresh grid
+
+no-entries : (es : List Entry) → ((e : Entry) → List·Memᴰ e es → (d : Done) × List·Memᴰ d [] × Is e d) → es ≡ []
+no-entries [] h = refl
+no-entries (e ∷ es) h = absurd (List·Memᴰ·not-nil (h e (List·Memᴰ·head refl) .1))
+
+no-values : (f : ℕ → ℕ) (h : ℕ) → hourIn f [] h ≡ []
+unfolding written deeds
+no-values f h = refl
+
+-- 01's example 10: of a grid just opened, whatever its memory holds, every hour that is there gets 18.
+pub fresh-grid : (p m first stride : ℕ) (mem : Memory) (ok : Accepted p m first stride mem) (h : ℕ) → h < m / 4
+    → summaryOf (openedWorld p m first stride mem .state) h mem ≡ Summary.Refused Refusal.NothingWritten
+unfolding run
+fresh-grid p m first stride mem ok h there =
+    let S = shown-at-rest p m first stride mem ok [] (λ q hq. refl) in
+    S .nothing h there (ap (λ (es : List Entry). hourIn (fillOf first stride) es h) (no-entries (S .one-order .order) (S .finished)) ∙ no-values (fillOf first stride) h)

@@ -1,6 +1,6 @@
 -- What is kept of the written quarters, quarter by quarter, and the hour from it.
 -- Assumes nothing.
-use Prim.Native.Nat.{ℕ, _+_, _*_, _/_, _<_, _≤_}
+use Prim.Native.Nat.{ℕ, _+_, _/_, _<_, _≤_}
 use mathlib.Core.Path.{_≡_, refl, sym, ap, _∙_}
 use mathlib.Core.Bool.{Bool, true, false}
 use mathlib.Core.List.{List, [], _∷_}
@@ -16,7 +16,7 @@ use Rattle.summary.specs.declared.Hour.{Hour}
 use Rattle.summary.specs.declared.Tally.{Tally}
 use Rattle.summary.specs.declared.Summary.{Summary}
 use Rattle.summary.specs.declared.Summary.the-variants as Summary
-use Rattle.summary.specs.Summary.{greater, greatest, sumOf, hourOf, counted, writtenAmong}
+use Rattle.summary.specs.Summary.{greater, writtenAmong}
 use Rattle.summary.specs.Inner.{tallyOf, Few, Counts, Mean, hourFrom, summed, four}
 
 pub second-greater : (a b : ℕ) → a < b → b ≡ greater a b

@@ -1,12 +1,20 @@
--- What is claimed of the hour summary: any two outcomes that meet its promise coincide. (It changes nothing by its type: the state
--- goes in by value and is not handed back, and the memories are lent to be read.)
+-- What is claimed of the hour summary. (It changes nothing by its type: the state goes in by value and is not handed back, and the
+-- memories are lent to be read.) Definitions only: `Outcomes` has the proofs.
 -- Assumes nothing.
 use Prim.Native.Nat.{ℕ}
-use mathlib.Core.Path.{_≡_, sym, _∙_}
+use mathlib.Core.Path.{_≡_}
 use Rattle.lanes.specs.declared.State.{State}
 use Rattle.steps.specs.Memory.{Memory}
 use Rattle.summary.specs.declared.Summary.{Summary}
 use Rattle.summary.specs.Summary.{summaryOf}
 
-pub one-summary : (s : State) (h : ℕ) (mem : Memory) (r r′ : Summary) → r ≡ summaryOf s h mem → r′ ≡ summaryOf s h mem → r ≡ r′
-one-summary s h mem r r′ e e′ = e ∙ sym e′
+-- Any two outcomes that meet the promise coincide.
+abbrev pub OneSummary : Type 0
+OneSummary = (s : State) (h : ℕ) (mem : Memory) (r r′ : Summary) → r ≡ summaryOf s h mem → r′ ≡ summaryOf s h mem → r ≡ r′
+
+-- No quarter counts with the filling rule: another rule changes nothing.
+abbrev pub filledBy : ℕ → ℕ → State → State
+filledBy first step s = record { p = s .p; m = s .m; first = first; step = step; top = s .top; lanes = s .lanes }
+
+abbrev pub WithoutFilling : Type 0
+WithoutFilling = (s : State) (first step h : ℕ) (mem : Memory) → summaryOf (filledBy first step s) h mem ≡ summaryOf s h mem

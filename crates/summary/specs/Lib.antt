@@ -1,3 +1,4 @@
 pub mod Summary
 pub mod Inner
 pub mod Claims
+pub mod Outcomes

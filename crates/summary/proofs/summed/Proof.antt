@@ -1,7 +1,6 @@
 -- `summary::summed` meets its contract.
 -- Assumes nothing.
 use Rattle.summary.proofs.TallyLaws.{first-fits, second-fits, third-fits, fourth-fits, nothing-written, mean-fits, hour-is}
-use borrow.Author.Needs.{needs}
 use Rattle.summary.proofs.summed.Statement.{statement}
 use Rattle.summary.proofs.summed.Tie as tie
 
