@@ -80,6 +80,7 @@ fn hour_of(t: Tally) -> Hour
     }
 }
 
+// Counted from the last on: the list of readings grows at its front.
 fn summed(a: Quarter, b: Quarter, c: Quarter, d: Quarter) -> Summary
     ensures { λ r. ⌜ r ≡ summed (writtenAmong (four a b c d)) ⌝ }
 {
