@@ -1,9 +1,11 @@
--- What an order of refusals shows where what it gives is no refusal.
+-- What an order of refusals shows where what it gives is no refusal; and a refusal from its number.
 -- Assumes nothing.
 use mathlib.Core.Path.{_≡_, refl}
 use mathlib.Core.Bool.{Bool, true, false}
 use mathlib.Core.List.{List, [], _∷_}
 use Rattle.refusals.specs.declared.Refusal.{Refusal}
+use Rattle.refusals.specs.declared.Refusal.the-variants as Refusal
+use Rattle.refusals.specs.Numbers.{numberOf, refusalOf}
 use Rattle.refusals.specs.Orders.{Rule, pick, orders}
 
 -- No refusal of an order holds.
@@ -20,3 +22,24 @@ past {A} refuse (r ∷ rs) work x apart h = by (λ y. past refuse rs work x apar
         → None (r ∷ rs) × (work ≡ x)
     by later true e y = absurd (apart (r .gives) y)
     by later false e y = let p = later y in ((e, p .0), p .1)
+
+-- A refusal comes back from its number.
+pub refusal-back : (r : Refusal) → refusalOf (numberOf r) ≡ r
+refusal-back Refusal.ProcessCount = refl
+refusal-back Refusal.CellCount = refl
+refusal-back Refusal.LentLength = refl
+refusal-back Refusal.NoSuchProcess = refl
+refusal-back Refusal.NoSuchCell = refl
+refusal-back Refusal.UnderWay = refl
+refusal-back Refusal.NothingUnderWay = refl
+refusal-back Refusal.OtherLengths = refl
+refusal-back Refusal.OutOfRange = refl
+refusal-back Refusal.AtWork = refl
+refusal-back Refusal.NotASchedule = refl
+refusal-back Refusal.Version = refl
+refusal-back Refusal.TooManyCells = refl
+refusal-back Refusal.RaggedRecords = refl
+refusal-back Refusal.RecordKind = refl
+refusal-back Refusal.FileTooLong = refl
+refusal-back Refusal.NoRoom = refl
+refusal-back Refusal.NothingWritten = refl

@@ -1,6 +1,6 @@
 // The refusals of the table, each by its name.
 ghost use mathlib.Core.Path.{_≡_};
-ghost use Rattle.refusals.specs.Numbers.{numberOf};
+ghost use Rattle.refusals.specs.Numbers.{numberOf, refusalOf};
 
 pub enum Refusal {
     // Open: p is 0 or over the most.
@@ -64,5 +64,31 @@ pub fn number(r: Refusal) -> u32
         Refusal::FileTooLong => 16,
         Refusal::NoRoom => 17,
         Refusal::NothingWritten => 18,
+    }
+}
+
+// The refusal of a number of the table; of any other number, the last.
+pub fn of_number(n: u32) -> Refusal
+    ensures { λ r. ⌜ r ≡ refusalOf n ⌝ }
+{
+    match n {
+        1 => Refusal::ProcessCount,
+        2 => Refusal::CellCount,
+        3 => Refusal::LentLength,
+        4 => Refusal::NoSuchProcess,
+        5 => Refusal::NoSuchCell,
+        6 => Refusal::UnderWay,
+        7 => Refusal::NothingUnderWay,
+        8 => Refusal::OtherLengths,
+        9 => Refusal::OutOfRange,
+        10 => Refusal::AtWork,
+        11 => Refusal::NotASchedule,
+        12 => Refusal::Version,
+        13 => Refusal::TooManyCells,
+        14 => Refusal::RaggedRecords,
+        15 => Refusal::RecordKind,
+        16 => Refusal::FileTooLong,
+        17 => Refusal::NoRoom,
+        _ => Refusal::NothingWritten,
     }
 }
