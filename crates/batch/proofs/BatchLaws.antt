@@ -4,16 +4,15 @@ use Prim.Native.Nat.{ℕ, zero, suc, _+_, _<_, _≤_}
 use mathlib.Core.Path.{_≡_, refl, sym, ap, _∙_}
 use mathlib.Core.Bool.{Bool, true, false}
 use mathlib.Core.List.{List}
+use native.Mathlib.Decide.{ℕ-discrete}
 use native.Mathlib.Omega.{arith}
 use native.Mathlib.Numerals.{add-one}
 use lib.Dec.{eqb, leb, ltb}
 use lib.ListN.{length, getD, set, length-set}
+use lib.Seq.{getD-set-same, getD-set-other}
 use borrow.Author.Tests.{lt-ltb, le-ltb, lt-leb, le-leb, eq-eqb, ne-eqb, ltb-true, ltb-false}
 use Rattle.numbers.specs.declared.Cell.{Cell}
-use Rattle.refusals.specs.Numbers.{numberOf}
 use Rattle.refusals.specs.Orders.{pick}
-use Rattle.refusals.specs.declared.Refusal.{Refusal}
-use Rattle.refusals.specs.declared.Refusal.the-variants as Refusal
 use Rattle.lanes.specs.declared.Lane.{Lane}
 use Rattle.lanes.specs.declared.State.{State}
 use Rattle.lanes.specs.Ranges.{laneOf, sizesFit, stateFits}
@@ -25,11 +24,10 @@ use Rattle.grid.specs.declared.Stepped.{Stepped}
 use Rattle.grid.specs.declared.Ask.{Ask}
 use Rattle.grid.specs.declared.Ask.the-variants as Ask
 use Rattle.grid.specs.declared.Answer.{Answer}
-use Rattle.grid.specs.declared.Answer.the-variants as Answer
 use Rattle.grid.specs.Calls.{begunOf, effect, actOf, sizesOf, steppedAs, named, Effect, Outcome, outcome, outcomeAs, beginOf, verdictOf, stepOf}
 use Rattle.grid.specs.Inner.{laneAt, changes}
 use Rattle.grid.proofs.StateLaws.{begun-is, begun-kept, step-is, moved-kept}
-use Rattle.batch.specs.Batch.{beginning, askOf, entered, codeWith, bit, codeOf, Batch, batch, answered, onward, after, least, entries, batchOf, entryOf}
+use Rattle.batch.specs.Batch.{beginning, askOf, entered, codeOf, answerOf, Batch, batch, answered, entering, onward, after, answerAt, Told, least, entries, batchOf, entryOf}
 use Rattle.batch.specs.Kept.{begin-keeps, step-keeps}
 
 pub first-least : (a b : ℕ) → a < b → a ≡ least a b
@@ -37,42 +35,6 @@ first-least a b h = simp (lt-ltb _ _ h)
 
 pub second-least : (a b : ℕ) → b ≤ a → b ≡ least a b
 second-least a b h = simp (le-ltb _ _ h)
-
-pub number-few : (r : Refusal) → numberOf r < 16777216
-number-few Refusal.ProcessCount = omega arith
-number-few Refusal.CellCount = omega arith
-number-few Refusal.LentLength = omega arith
-number-few Refusal.NoSuchProcess = omega arith
-number-few Refusal.NoSuchCell = omega arith
-number-few Refusal.UnderWay = omega arith
-number-few Refusal.NothingUnderWay = omega arith
-number-few Refusal.OtherLengths = omega arith
-number-few Refusal.OutOfRange = omega arith
-number-few Refusal.AtWork = omega arith
-number-few Refusal.NotASchedule = omega arith
-number-few Refusal.Version = omega arith
-number-few Refusal.TooManyCells = omega arith
-number-few Refusal.RaggedRecords = omega arith
-number-few Refusal.RecordKind = omega arith
-number-few Refusal.FileTooLong = omega arith
-number-few Refusal.NoRoom = omega arith
-number-few Refusal.NothingWritten = omega arith
-
-pub refusal-few : (n : ℕ) (r : Refusal) → n ≡ numberOf r → (5 < 256) × (n < 16777216)
-refusal-few n r e = (omega arith, rw e (number-few r))
-
-module _ (a : Answer) (c : ℕ) where
-  pub code-read : (v n : ℕ) → a ≡ Answer.Read v n → c ≡ codeWith 2 n v → c ≡ codeOf a
-  code-read v n e h = rw e h
-
-  pub code-written : (n : ℕ) → a ≡ Answer.Written n → c ≡ codeWith 3 n 0 → c ≡ codeOf a
-  code-written n e h = rw e h
-
-  pub code-asked : (b : Bool) (n v : ℕ) → a ≡ Answer.Asked b n → v ≡ bit b → c ≡ codeWith 4 n v → c ≡ codeOf a
-  code-asked b n v e f h = rw e (h ∙ rw f)
-
-  pub code-refused : (r : Refusal) (n : ℕ) → a ≡ Answer.Refused r → n ≡ numberOf r → c ≡ codeWith 5 n 0 → c ≡ codeOf a
-  code-refused r n e f h = rw e (h ∙ rw f)
 
 pub not-beginning : (kind : ℕ) → kind < 1 → false ≡ beginning kind
 not-beginning kind h = simp (lt-leb _ _ h)
@@ -164,6 +126,21 @@ module _ (kinds processes cells values : List ℕ) (s : State) (mem : Memory) (a
       out′ : outcome (steppedAs t k b) mem₂ ≡ entered t mem₁ (getD kinds i 0) (getD processes i 0) (record { 0 = getD cells i 0 }) (getD values i 0)
       out′ = out ∙ rw (ek, eq, ec, ev)
 
+  -- the answers so far come back from their words
+  abbrev pub Back : ℕ → List ℕ → Type 0
+  Back = Told kinds processes cells values (batch s mem answers)
+
+  pub back-none : Back 0 answers
+  back-none k h = absurd (let y : ⊥ = omega arith in y)
+
+  pub back-more : (i code : ℕ) (words : List ℕ) → i < length words → Back i words → answerOf code ≡ answerAt kinds processes cells values (batch s mem answers) i
+      → Back (i + 1) (set words i code)
+  back-more i code words low h e k here = by (ℕ-discrete k i)
+    where
+      by : Dec (k ≡ i) → answerOf (getD (set words i code) k 0) ≡ answerAt kinds processes cells values (batch s mem answers) k
+      by (yes x) = rw x (ap answerOf (getD-set-same words i code 0 low) ∙ e)
+      by (no x) = ap answerOf (getD-set-other words i k code 0 x) ∙ h k (omega (arith, here, x))
+
 -- the least of the lengths is no more than any
 least-low : (a b : ℕ) → (least a b ≤ a) × (least a b ≤ b)
 least-low a b = by (ltb a b) refl
@@ -201,6 +178,7 @@ pub record Going (kinds₀ processes₀ cells₀ values₀ answers₀ readings�
   pub fine : fits ≡ stateFits t
   pub done : Done kinds₀ processes₀ cells₀ values₀ s (memory readings₀ links₀ directory₀ pool₀) answers₀ i
       (batch t (memory readings links directory pool) answers)
+  pub back : Back kinds₀ processes₀ cells₀ values₀ s (memory readings₀ links₀ directory₀ pool₀) answers₀ i answers
 
 module _ (kinds processes cells values answers₀ readings₀ links₀ directory₀ pool₀ : List ℕ) (s : State) (fits : Bool) (n : ℕ) where
   pub going-start : n ≡ entries kinds processes cells values answers₀ → fits ≡ stateFits s
@@ -216,6 +194,7 @@ module _ (kinds processes cells values answers₀ readings₀ links₀ directory
     same-pool = refl;
     fine = f;
     done = done-none kinds processes cells values s (memory readings₀ links₀ directory₀ pool₀) answers₀;
+    back = back-none kinds processes cells values s (memory readings₀ links₀ directory₀ pool₀) answers₀;
   }
 
   module _ (answers readings links directory pool : List ℕ) (t : State) (i : ℕ)
@@ -225,7 +204,7 @@ module _ (kinds processes cells values answers₀ readings₀ links₀ directory
         → effect b (memory readings′ links′ directory′ pool′)
         ≡ entryOf fits (sizesOf t) (getD processes i 0) (laneOf t k) (laneOf t j .marks) (getD kinds i 0) (record { 0 = getD cells i 0 }) (getD values i 0)
         (memory readings links directory pool)
-        → code ≡ codeOf (b .answer) → answers′ ≡ set answers i code → length readings′ ≡ length readings → length links′ ≡ length links → length directory′ ≡ length directory
+        → (code ≡ codeOf (b .answer)) × (answerOf code ≡ b .answer) → answers′ ≡ set answers i code → length readings′ ≡ length readings → length links′ ≡ length links → length directory′ ≡ length directory
         → length pool′ ≡ length pool
         → Going kinds processes cells values answers₀ readings₀ links₀ directory₀ pool₀ s fits n answers′ readings′ links′ directory′ pool′ t′ (i + 1)
     going-more answers′ readings′ links′ directory′ pool′ t′ k j code b et low at from f g ea er el ed ep = rw (ea, et) (record {
@@ -240,7 +219,9 @@ module _ (kinds processes cells values answers₀ readings₀ links₀ directory
       fine = G .fine ∙ sym (ap (λ (x : Outcome). stateFits (x .stepped .state)) out ∙ entered-keeps t (memory readings links directory pool) (getD kinds i 0) (getD processes i 0) (record { 0 = getD cells i 0 }) (getD values i 0));
       done = done-more kinds processes cells values s (memory readings₀ links₀ directory₀ pool₀) answers₀ i t (memory readings links directory pool)
           (memory readings′ links′ directory′ pool′) answers k (getD processes i 0) (getD kinds i 0) (getD values i 0) code (record { 0 = getD cells i 0 }) b
-          (G .done) refl refl refl refl out g;
+          (G .done) refl refl refl refl out (g .0);
+      back = back-more kinds processes cells values s (memory readings₀ links₀ directory₀ pool₀) answers₀ i code answers
+          (let a = G .few .in-answers in let b = G .same-answers in omega arith) (G .back) (g .1 ∙ given);
     })
       where
         out : outcome (steppedAs t k b) (memory readings′ links′ directory′ pool′)
@@ -248,13 +229,16 @@ module _ (kinds processes cells values answers₀ readings₀ links₀ directory
         out = entry-is t (getD processes i 0) k at j from fits (G .fine) (memory readings links directory pool) (memory readings′ links′ directory′ pool′)
             (getD kinds i 0) (record { 0 = getD cells i 0 }) (getD values i 0) b f
 
+        given : b .answer ≡ answerAt kinds processes cells values (batch s (memory readings₀ links₀ directory₀ pool₀) answers₀) i
+        given = ap (λ (x : Outcome). x .stepped .answer) out ∙ ap (λ (x : Batch). entering kinds processes cells values x i .stepped .answer) (G .done)
+
     -- a refused entry: the state stays
     pub going-kept : (answers′ readings′ links′ directory′ pool′ : List ℕ) (k j code : ℕ) (b : Acted) (r : Bool) → r ≡ changes (b .answer) → r ≡ false → i < n
         → k ≡ laneAt (getD processes i 0) → j ≡ laneAt (named (laneOf t k .op))
         → effect b (memory readings′ links′ directory′ pool′)
         ≡ entryOf fits (sizesOf t) (getD processes i 0) (laneOf t k) (laneOf t j .marks) (getD kinds i 0) (record { 0 = getD cells i 0 }) (getD values i 0)
         (memory readings links directory pool)
-        → code ≡ codeOf (b .answer) → answers′ ≡ set answers i code → length readings′ ≡ length readings → length links′ ≡ length links → length directory′ ≡ length directory
+        → (code ≡ codeOf (b .answer)) × (answerOf code ≡ b .answer) → answers′ ≡ set answers i code → length readings′ ≡ length readings → length links′ ≡ length links → length directory′ ≡ length directory
         → length pool′ ≡ length pool
         → Going kinds processes cells values answers₀ readings₀ links₀ directory₀ pool₀ s fits n answers′ readings′ links′ directory′ pool′ t (i + 1)
     going-kept answers′ readings′ links′ directory′ pool′ k j code b r is stays low at from f =
@@ -263,12 +247,13 @@ module _ (kinds processes cells values answers₀ readings₀ links₀ directory
         (getD kinds i 0) (record { 0 = getD cells i 0 }) (getD values i 0) b f r is stays)
         low at from f
 
-    pub going-end : n ≤ i → batch t (memory readings links directory pool) answers
-        ≡ batchOf s (memory readings₀ links₀ directory₀ pool₀) answers₀ kinds processes cells values
+    pub going-end : n ≤ i
+        → (batch t (memory readings links directory pool) answers ≡ batchOf s (memory readings₀ links₀ directory₀ pool₀) answers₀ kinds processes cells values)
+        × Back kinds processes cells values s (memory readings₀ links₀ directory₀ pool₀) answers₀ (entries kinds processes cells values answers₀) answers
     unfolding batchOf
     going-end h =
         let e : i ≡ entries kinds processes cells values answers₀ = let a = G .at in let b = G .number in omega arith in
-        G .done ∙ ap (after kinds processes cells values (batch s (memory readings₀ links₀ directory₀ pool₀) answers₀)) e
+        (G .done ∙ ap (after kinds processes cells values (batch s (memory readings₀ links₀ directory₀ pool₀) answers₀)) e, rw (← e) (G .back))
 
 pub entries-are : (kinds processes cells values answers : List ℕ) (a b c n : ℕ) → a ≡ least (length kinds) (length processes)
     → b ≡ least (length cells) (length values) → c ≡ least a b → n ≡ least c (length answers) → n ≡ entries kinds processes cells values answers

@@ -1,12 +1,13 @@
 -- A list of begins and steps on one grid: the fold of the definitions of begin and step.
 -- Assumes nothing.
-use Prim.Native.Nat.{ℕ, zero, suc, _+_, _*_}
+use Prim.Native.Nat.{ℕ, zero, suc, _+_, _*_, _/_, _%_, _<_}
+use mathlib.Core.Path.{_≡_}
 use mathlib.Core.Bool.{Bool, true, false, _&&_}
 use mathlib.Core.List.{List}
 use lib.Dec.{ltb, leb, eqb}
 use lib.ListN.{length, getD, set}
 use Rattle.numbers.specs.declared.Cell.{Cell}
-use Rattle.refusals.specs.Numbers.{numberOf}
+use Rattle.refusals.specs.Numbers.{numberOf, refusalOf}
 use Rattle.refusals.specs.Orders.{pick}
 use Rattle.lanes.specs.declared.Lane.{Lane}
 use Rattle.lanes.specs.declared.State.{State}
@@ -45,6 +46,19 @@ codeOf (Answer.Written n) = codeWith 3 n 0
 codeOf (Answer.Asked b n) = codeWith 4 n (bit b)
 codeOf (Answer.Refused r) = codeWith 5 (numberOf r) 0
 
+-- And back: the answer that a word says.
+abbrev pub answerAs : ℕ → ℕ → ℕ → Answer
+answerAs kind count value =
+    pick (eqb kind 0) Answer.Begun
+    (pick (eqb kind 1) Answer.Going
+    (pick (eqb kind 2) (Answer.Read value count)
+    (pick (eqb kind 3) (Answer.Written count)
+    (pick (eqb kind 4) (Answer.Asked (eqb value 1) count)
+    (Answer.Refused (refusalOf count))))))
+
+unfoldable pub answerOf : ℕ → Answer
+answerOf w = answerAs (w % 256) (w / 256 % 256) (w / 4294967296)
+
 -- What the entries leave: the state, the memories and the words of the answers.
 pub record Batch : Type 0 where
   pub state : State
@@ -59,13 +73,22 @@ answered b k o = batch (o .stepped .state) (o .memory) (set (b .answers) k (code
 
 -- Entry k, and the first n entries, one after the other.
 module _ (kinds processes cells values : List ℕ) where
+  abbrev pub entering : Batch → ℕ → Outcome
+  entering b k = entered (b .state) (b .memory) (getD kinds k 0) (getD processes k 0) (record { 0 = getD cells k 0 }) (getD values k 0)
+
   abbrev pub onward : Batch → ℕ → Batch
-  onward b k =
-      answered b k (entered (b .state) (b .memory) (getD kinds k 0) (getD processes k 0) (record { 0 = getD cells k 0 }) (getD values k 0))
+  onward b k = answered b k (entering b k)
 
   unfoldable pub after : Batch → ℕ → Batch
   after b zero = b
   after b (suc n) = onward (after b n) n
+
+  -- Each of the first n answers comes back from its word.
+  abbrev pub answerAt : Batch → ℕ → Answer
+  answerAt b k = entering (after b k) k .stepped .answer
+
+  abbrev pub Told : Batch → ℕ → List ℕ → Type 0
+  Told b n answers = (k : ℕ) → k < n → answerOf (getD answers k 0) ≡ answerAt b k
 
 -- As many entries as the shortest of the lists has.
 abbrev pub least : ℕ → ℕ → ℕ

@@ -6,7 +6,7 @@ ghost use Rattle.lanes.specs.Ranges.{stateFits};
 ghost use Rattle.steps.specs.Memory.{memory};
 ghost use Rattle.grid.specs.Calls.{effect};
 ghost use Rattle.grid.specs.Inner.{Judged};
-ghost use Rattle.batch.specs.Batch.{least, bit, codeWith, codeOf, beginning, askOf, entryOf, batch, batchOf};
+ghost use Rattle.batch.specs.Batch.{least, bit, codeWith, codeOf, answerOf, beginning, askOf, entryOf, batch, entries, batchOf, Told};
 use grid::Acted;
 use grid::Answer;
 use grid::Ask;
@@ -52,6 +52,7 @@ fn bit(b: bool) -> u32
 
 fn code_of(a: Answer) -> u64
     ensures { λ r. ⌜ r ≡ codeOf a ⌝ }
+    ensures { λ r. ⌜ answerOf r ≡ a ⌝ }
 {
     match a {
         Answer::Begun => code(0, 0, 0),
@@ -60,6 +61,22 @@ fn code_of(a: Answer) -> u64
         Answer::Written(n) => code(3, n as u32, 0),
         Answer::Asked(b, n) => code(4, n as u32, bit(b)),
         Answer::Refused(r) => code(5, refusals::number(r), 0),
+    }
+}
+
+// The answer that a word says.
+pub fn answer_of(w: u64) -> Answer
+    ensures { λ r. ⌜ r ≡ answerOf w ⌝ }
+{
+    let count = (w / 256 % 256) as u8;
+    let value = (w / 4294967296) as u32;
+    match w % 256 {
+        0 => Answer::Begun,
+        1 => Answer::Going,
+        2 => Answer::Read(value, count),
+        3 => Answer::Written(count),
+        4 => Answer::Asked(value == 1, count),
+        _ => Answer::Refused(refusals::of_number(count as u32)),
     }
 }
 
@@ -128,6 +145,7 @@ pub fn run(
     pool: &mut [u32],
 ) -> State
     ensures { λ r. ⌜ batch r (memory (now (readings .exit)) (now (links .exit)) (now (directory .exit)) (now (pool .exit))) (now (answers .exit)) ≡ batchOf s (memory (now (readings .entry)) (now (links .entry)) (now (directory .entry)) (now (pool .entry))) (now (answers .entry)) (now (kinds .entry)) (now (processes .entry)) (now (cells .entry)) (now (values .entry)) ⌝ }
+    ensures { λ _. ⌜ Told (now (kinds .entry)) (now (processes .entry)) (now (cells .entry)) (now (values .entry)) (batch s (memory (now (readings .entry)) (now (links .entry)) (now (directory .entry)) (now (pool .entry))) (now (answers .entry))) (entries (now (kinds .entry)) (now (processes .entry)) (now (cells .entry)) (now (values .entry)) (now (answers .entry))) (now (answers .exit)) ⌝ }
 {
     let mut t = s;
     let fits = state_fits(s);

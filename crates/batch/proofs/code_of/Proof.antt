@@ -1,6 +1,7 @@
 -- `batch::code_of` meets its contract.
 -- Assumes nothing.
-use Rattle.batch.proofs.BatchLaws.{refusal-few, code-read, code-written, code-asked, code-refused}
+use Rattle.batch.proofs.WordLaws.{refusal-few, code-begun, code-going, code-read, code-written, code-asked, code-refused}
+use native.Mathlib.Omega.{arith}
 use borrow.Author.Needs.{needs}
 use Rattle.batch.proofs.code_of.Statement.{statement}
 use Rattle.batch.proofs.code_of.Tie as tie
@@ -57,22 +58,22 @@ code-requires-6 : tie.Need-code-requires-6
 code-requires-6 c κs = search (refusal-few)
 
 returns : tie.Need-returns
-returns c = search needs
+returns c = code-begun _ _ (c .before .enum-told .given .1) (c .code .ensures)
 
 returns-2 : tie.Need-returns-2
-returns-2 c = search needs
+returns-2 c = code-going _ _ (c .before .enum-told2 .given .1) (c .code2 .ensures)
 
 returns-3 : tie.Need-returns-3
-returns-3 c = search (code-read)
+returns-3 c = code-read _ _ _ _ (omega arith) (c .before .before .a .given .1) (c .code3 .ensures)
 
 returns-4 : tie.Need-returns-4
-returns-4 c = search (code-written)
+returns-4 c = code-written _ _ _ (omega arith) (c .before .before .a2 .given .1) (c .code4 .ensures)
 
 returns-5 : tie.Need-returns-5
-returns-5 c = search (code-asked)
+returns-5 c = code-asked _ _ _ _ _ (omega arith) (c .before .before .before .a3 .given .1) (c .before .bit .ensures) (c .code5 .ensures)
 
 returns-6 : tie.Need-returns-6
-returns-6 c = search (code-refused)
+returns-6 c = code-refused _ _ _ _ (c .before .before .before .a4 .given .1) (c .before .number .ensures) (c .code6 .ensures)
 
 pub code-of-spec : {M : Type 1} → statement M
 code-of-spec =

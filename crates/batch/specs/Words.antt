@@ -1,0 +1,66 @@
+-- An answer comes back from its word.
+-- Assumes nothing.
+use Prim.Native.Nat.{ℕ, _+_, _*_, _/_, _%_, _<_}
+use mathlib.Core.Path.{_≡_, refl, _∙_}
+use mathlib.Core.Bool.{Bool, true, false}
+use native.Mathlib.Omega.{arith}
+use lib.Dec.{eqb}
+use Rattle.refusals.specs.Numbers.{numberOf}
+use Rattle.refusals.specs.Laws.{refusal-back}
+use Rattle.refusals.specs.declared.Refusal.{Refusal}
+use Rattle.refusals.specs.declared.Refusal.the-variants as Refusal
+use Rattle.grid.specs.declared.Answer.{Answer}
+use Rattle.grid.specs.declared.Answer.the-variants as Answer
+use Rattle.batch.specs.Batch.{codeWith, bit, codeOf, answerAs, answerOf}
+
+-- An answer's steps; 0 where it has none.
+abbrev pub stepsOf : Answer → ℕ
+stepsOf Answer.Begun = 0
+stepsOf Answer.Going = 0
+stepsOf (Answer.Read v n) = n
+stepsOf (Answer.Written n) = n
+stepsOf (Answer.Asked b n) = n
+stepsOf (Answer.Refused r) = 0
+
+pub number-few : (r : Refusal) → numberOf r < 256
+number-few Refusal.ProcessCount = omega arith
+number-few Refusal.CellCount = omega arith
+number-few Refusal.LentLength = omega arith
+number-few Refusal.NoSuchProcess = omega arith
+number-few Refusal.NoSuchCell = omega arith
+number-few Refusal.UnderWay = omega arith
+number-few Refusal.NothingUnderWay = omega arith
+number-few Refusal.OtherLengths = omega arith
+number-few Refusal.OutOfRange = omega arith
+number-few Refusal.AtWork = omega arith
+number-few Refusal.NotASchedule = omega arith
+number-few Refusal.Version = omega arith
+number-few Refusal.TooManyCells = omega arith
+number-few Refusal.RaggedRecords = omega arith
+number-few Refusal.RecordKind = omega arith
+number-few Refusal.FileTooLong = omega arith
+number-few Refusal.NoRoom = omega arith
+number-few Refusal.NothingWritten = omega arith
+
+-- the parts of a word are what it was made of
+parts-back : (kind count value : ℕ) → kind < 256 → count < 256 → answerOf (codeWith kind count value) ≡ answerAs kind count value
+unfolding answerOf
+parts-back kind count value h k =
+    let e : codeWith kind count value % 256 ≡ kind = omega arith in
+    let d : codeWith kind count value / 256 ≡ count + 16777216 * value = omega arith in
+    let f : (count + 16777216 * value) % 256 ≡ count = omega arith in
+    let g : codeWith kind count value / 4294967296 ≡ value = omega arith in
+    rw (e, d, f, g)
+
+bit-back : (b : Bool) → eqb (bit b) 1 ≡ b
+bit-back true = refl
+bit-back false = refl
+
+-- Steps that fit a byte come back, and so does all the rest.
+pub answer-back : (a : Answer) → stepsOf a < 256 → answerOf (codeOf a) ≡ a
+answer-back Answer.Begun h = parts-back 0 0 0 (omega arith) (omega arith)
+answer-back Answer.Going h = parts-back 1 0 0 (omega arith) (omega arith)
+answer-back (Answer.Read v n) h = parts-back 2 n v (omega arith) h
+answer-back (Answer.Written n) h = parts-back 3 n 0 (omega arith) h
+answer-back (Answer.Asked b n) h = parts-back 4 n (bit b) (omega arith) h ∙ rw (bit-back b)
+answer-back (Answer.Refused r) h = parts-back 5 (numberOf r) 0 (omega arith) (number-few r) ∙ rw (refusal-back r)
