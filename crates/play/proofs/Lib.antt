@@ -1,4 +1,5 @@
-pub mod RecordLaws
+pub mod ListLaws
+pub mod LineLaws
 pub mod RunLaws
 pub mod FileLaws
 pub mod EndLaws

@@ -1,25 +1,22 @@
--- The records played one after the other: the loop, from the first line to the whole output.
+-- The lists played one after the other: the loop, from the first line to the whole output.
 -- Assumes nothing.
-use Prim.Native.Nat.{ℕ, _+_, _*_, _<_, _≤_}
+use Prim.Native.Nat.{ℕ, _+_, _-_, _*_, _<_, _≤_}
 use mathlib.Core.Path.{_≡_, refl, sym, ap, _∙_}
 use mathlib.Core.List.{List, _++_}
 use native.Mathlib.Omega.{arith}
-use native.Mathlib.Numerals.{add-one}
-use lib.ListN.{length, length-append}
+use lib.ListN.{length}
 use Rattle.qhs.specs.declared.Header.{Header}
-use Rattle.qhs.specs.declared.Record.{Record}
-use Rattle.qhs.specs.Qhs.{recordAt}
-use Rattle.lanes.specs.declared.State.{State}
 use Rattle.steps.specs.Memory.{Memory}
 use Rattle.grid.specs.declared.Opened.{Opened}
-use Rattle.grid.specs.Calls.{Outcome, openOf}
+use Rattle.grid.specs.Calls.{openOf}
 use Rattle.text.specs.declared.Put.{Put}
 use Rattle.text.specs.declared.Put.the-variants as Put
-use Rattle.text.specs.Text.{sizesLine, answerLine, splice, placed, putOf, endOf}
-use Rattle.text.specs.Places.{put-end, splice-none, splice-length, splice-more, sizes-short}
-use Rattle.play.specs.declared.records.Round.{Round}
-use Rattle.play.specs.Play.{turnOf, World, world, opened, turned, after, lineAt, linesTo, scheduleText, put}
-use Rattle.play.specs.Inner.{Done, Ready}
+use Rattle.text.specs.Text.{sizesLine, placed, putOf, endOf}
+use Rattle.text.specs.Places.{sizes-short}
+use Rattle.play.specs.Play.{World, world, opened, after, linesTo, scheduleText, put}
+use Rattle.play.specs.Inner.{listRecords, countOf, wordLines, Listed, Shown, Short, Room, Ready}
+use Rattle.play.proofs.ListLaws.{counted}
+use Rattle.play.proofs.LineLaws.{shown-none, shown-line, shown-more, shown-sized, lines-listed}
 
 -- where the loop stands after k records
 pub record Going (bytes : List ℕ) (n : ℕ) (w₀ : World) (out₀ : List ℕ) (at₀ : ℕ) (w : World) (out : List ℕ) (at k : ℕ) : Type 0 where
@@ -27,78 +24,62 @@ pub record Going (bytes : List ℕ) (n : ℕ) (w₀ : World) (out₀ : List ℕ)
   pub few : n ≤ 8189
   pub room : at₀ + 25 * n ≤ length out₀
   pub is : w ≡ after bytes w₀ k
-  pub shows : out ≡ splice out₀ at₀ (linesTo bytes w₀ k)
-  pub ends : at ≡ at₀ + length (linesTo bytes w₀ k)
-  pub short : length (linesTo bytes w₀ k) ≤ 25 * k
+  pub shown : Shown k out₀ at₀ (linesTo bytes w₀ k) out at
 
 -- what the first line leaves
-pub record Begun (h : Header) (out out₀ : List ℕ) (at₀ : ℕ) : Type 0 where
-  pub is : out₀ ≡ splice out 0 (sizesLine (h .p) (h .m))
-  pub ends : at₀ ≡ 0 + length (sizesLine (h .p) (h .m))
-  pub short : at₀ ≤ 25
-  pub sized : length out₀ ≡ length out
-
-pub begun : (h : Header) (n : ℕ) (out out₀ : List ℕ) (at₀ : ℕ) (p : Put) → Ready h n out → placed p out₀ ≡ putOf out 0 (sizesLine (h .p) (h .m))
-    → at₀ ≡ endOf p → Begun h out out₀ at₀
+begun : (h : Header) (n : ℕ) (out out₀ : List ℕ) (at₀ : ℕ) (p : Put) → Ready h n out → placed p out₀ ≡ putOf out 0 (sizesLine (h .p) (h .m))
+    → at₀ ≡ endOf p → Shown 1 out 0 (sizesLine (h .p) (h .m)) out₀ at₀
 begun h n out out₀ at₀ p r e f =
-    let line : length (sizesLine (h .p) (h .m)) ≤ 24 = sizes-short (h .p) (h .m) (omega arith) (omega arith) in
-    let both = put-end p out out₀ (sizesLine (h .p) (h .m)) 0 (omega arith) e in
-    record {
-      is = both .1;
-      ends = omega (arith, f, both .0);
-      short = omega (arith, f, both .0);
-      sized = ap length (both .1) ∙ splice-length out (sizesLine (h .p) (h .m)) 0 (omega arith);
-    }
+    let line = sizes-short (h .p) (h .m) (omega (arith, r .p-high)) (omega (arith, r .m-high)) in
+    shown-line out 0 p (sizesLine (h .p) (h .m)) out₀ at₀ (omega (arith, r .room)) (omega arith) e f
 
 pub going-start : (bytes : List ℕ) (h : Header) (n : ℕ) (w₀ : World) (out out₀ : List ℕ) (at₀ : ℕ) (p : Put) → Ready h n out
     → placed p out₀ ≡ putOf out 0 (sizesLine (h .p) (h .m)) → at₀ ≡ endOf p → Going bytes n w₀ out₀ at₀ w₀ out₀ at₀ 0
 unfolding after linesTo
 going-start bytes h n w₀ out out₀ at₀ p r e f =
     let b = begun h n out out₀ at₀ p r e f in
+    let sized = shown-sized out 0 1 (sizesLine (h .p) (h .m)) out₀ at₀ (omega (arith, r .room)) b in
     record {
       below = omega arith;
       few = r .n-high;
-      room = omega (arith, b .short, b .sized, r .room, r .n-high);
+      room = omega (arith, b .ends, b .short, r .room, r .n-high);
       is = refl;
-      shows = sym (splice-none out₀ at₀);
-      ends = omega arith;
-      short = omega arith;
+      shown = shown-none out₀ at₀;
     }
 
 module _ (bytes : List ℕ) (n : ℕ) (w₀ : World) (out₀ : List ℕ) (at₀ : ℕ) (w : World) (out : List ℕ) (at k : ℕ) (g : Going bytes n w₀ out₀ at₀ w out at k) where
   pub going-sized : length out ≡ length out₀
-  going-sized = ap length (g .shows) ∙ splice-length out₀ (linesTo bytes w₀ k) at₀ (omega (arith, g .short, g .room, g .below))
+  going-sized = shown-sized out₀ at₀ k (linesTo bytes w₀ k) out at (omega (arith, g .room, g .below)) (g .shown)
 
-  -- there is room for one more line
-  pub going-room : k < n → (k < 10000) × (at + 25 ≤ length out)
-  going-room low = (omega (arith, g .few), omega (arith, going-sized, g .ends, g .short, g .room))
+  module _ (c : ℕ) (words : List ℕ) (low : k < n) (e : c ≡ countOf (n - k)) where
+    pub going-short : listRecords ≡ length words → Short k c words
+    going-short long =
+        let d = counted c (n - k) e in
+        record { few = d .few; number = omega (arith, g .few, d .low); told = omega (arith, d .few, long) }
 
-pub going-next : (bytes : List ℕ) (n : ℕ) (w₀ : World) (out₀ : List ℕ) (at₀ : ℕ) (s : State) (mem mem′ : Memory) (out out′ : List ℕ) (at k : ℕ) (d : Record) (r : Round)
-    → k < n → Going bytes n w₀ out₀ at₀ (world s mem) out at k → d ≡ recordAt bytes k → Done s k at d mem mem′ out out′ r
-    → Going bytes n w₀ out₀ at₀ (world (r .state) mem′) out′ (r .at) (k + 1)
-unfolding after linesTo
-going-next bytes n w₀ out₀ at₀ s mem mem′ out out′ at k d r low g e o =
-    let turn : turnOf s mem d ≡ turned (after bytes w₀ k) (recordAt bytes k) =
-    ap (λ (x : Record). turnOf s mem x) e ∙ ap (λ (w : World). turned w (recordAt bytes k)) (g .is) in
-    let line : answerLine k (turnOf s mem d .stepped .answer) ≡ lineAt bytes w₀ k = ap (λ (x : Outcome). answerLine k (x .stepped .answer)) turn in
-    let more = length-append (linesTo bytes w₀ k) (lineAt bytes w₀ k) in
-    let long : length (answerLine k (turnOf s mem d .stepped .answer)) ≡ length (lineAt bytes w₀ k) = ap length line in
-    let one : length (lineAt bytes w₀ k) ≤ 25 = omega (arith, o .short) in
-    let shown : out′ ≡ splice out₀ at₀ (linesTo bytes w₀ k ++ lineAt bytes w₀ k) =
-    o .shows ∙ rw (line, g .shows, g .ends) (splice-more out₀ (linesTo bytes w₀ k) (lineAt bytes w₀ k) at₀ (omega (arith, g .short, g .room, low))) in
-    rw (add-one k)
-    (record {
-      below = omega arith;
-      few = g .few;
-      room = g .room;
-      is =
-          ap (λ (x : State). world x mem′) (o .state)
-          ∙ ap (λ (x : Memory). world (turnOf s mem d .stepped .state) x) (o .memory)
-          ∙ ap (λ (x : Outcome). world (x .stepped .state) (x .memory)) turn;
-      shows = shown;
-      ends = omega (arith, o .ends, g .ends);
-      short = omega (arith, g .short);
-    })
+    -- there is room for the lines of one more list
+    pub going-room : listRecords ≡ length words → Room k c words at out
+    going-room long =
+        let d = counted c (n - k) e in
+        record {
+          number = omega (arith, g .few, d .low);
+          told = omega (arith, d .few, long);
+          room = omega (arith, going-sized, g .shown .ends, g .shown .short, g .room, d .low);
+        }
+
+    pub going-next : (w′ : World) (out′ : List ℕ) (at′ : ℕ) → Listed bytes w₀ k c w′ words → Shown c out at (wordLines k words c) out′ at′
+        → Going bytes n w₀ out₀ at₀ w′ out′ at′ (k + c)
+    going-next w′ out′ at′ l x =
+        let d = counted c (n - k) e in
+        record {
+          below = omega (arith, d .low);
+          few = g .few;
+          room = g .room;
+          is = l .is;
+          shown =
+              rw (← lines-listed bytes w₀ k c w′ words l)
+              (shown-more out₀ at₀ k c (linesTo bytes w₀ k) (wordLines k words c) out out′ at at′ (omega (arith, g .room, low)) (g .shown) x);
+        }
 
 pub going-end : (bytes : List ℕ) (h : Header) (n : ℕ) (mem : Memory) (q : Opened) (out out₀ : List ℕ) (at₀ : ℕ) (p : Put) (w : World) (out′ : List ℕ) (at k : ℕ)
     → Ready h n out → q ≡ openOf (h .p) (h .m) (h .first) (h .step) mem → placed p out₀ ≡ putOf out 0 (sizesLine (h .p) (h .m)) → at₀ ≡ endOf p
@@ -107,12 +88,9 @@ unfolding scheduleText
 going-end bytes h n mem q out out₀ at₀ p w out′ at k r o e f high g =
     let b = begun h n out out₀ at₀ p r e f in
     let is : k ≡ n = omega (arith, g .below) in
-    let line : List ℕ = sizesLine (h .p) (h .m) in
-    let lines : List ℕ = linesTo bytes (opened h mem) n in
-    let same : linesTo bytes (world (q .state) mem) k ≡ lines =
+    let same : linesTo bytes (world (q .state) mem) k ≡ linesTo bytes (opened h mem) n =
     ap (λ (x : Opened). linesTo bytes (world (x .state) mem) k) o ∙ ap (λ (x : ℕ). linesTo bytes (opened h mem) x) is in
-    let shown : out′ ≡ splice out 0 (line ++ lines) =
-    g .shows ∙ rw (same, b .is, b .ends) (splice-more out line lines 0 (omega (arith, r .room, b .short, b .ends))) in
-    let long : at ≡ length (line ++ lines) =
-    omega (arith, g .ends, b .ends, ap length same, length-append line lines) in
-    rw (shown, long)
+    let all =
+    shown-more out 0 1 k (sizesLine (h .p) (h .m)) (linesTo bytes (opened h mem) n) out₀ out′ at₀ at (omega (arith, r .room)) b (rw (← same) (g .shown)) in
+    let long : at ≡ length (sizesLine (h .p) (h .m) ++ linesTo bytes (opened h mem) n) = omega (arith, all .ends) in
+    rw (all .shows, long)

@@ -1,24 +1,60 @@
 -- What functions inside the crate ask and promise; no statement cites it.
 -- Assumes nothing.
-use Prim.Native.Nat.{ℕ, _+_, _≤_}
+use Prim.Native.Nat.{ℕ, zero, suc, _+_, _*_, _<_, _≤_}
 use mathlib.Core.Path.{_≡_}
-use mathlib.Core.List.{List}
-use lib.ListN.{length}
+use mathlib.Core.List.{List, [], _++_}
+use lib.Dec.{ltb}
+use lib.ListN.{length, getD}
+use Rattle.refusals.specs.Orders.{pick}
 use Rattle.qhs.specs.declared.Header.{Header}
 use Rattle.qhs.specs.declared.Record.{Record}
-use Rattle.lanes.specs.declared.State.{State}
-use Rattle.steps.specs.Memory.{Memory}
+use Rattle.qhs.specs.Qhs.{mostKind, recordAt}
+use Rattle.batch.specs.Batch.{answerOf}
 use Rattle.text.specs.Text.{answerLine, splice}
-use Rattle.play.specs.declared.records.Round.{Round}
-use Rattle.play.specs.Play.{turnOf, outputRoom}
+use Rattle.play.specs.Play.{World, turned, after, outputRoom}
 
--- What a record's turn and its line come to: the state, the memory, the buffer and where the line ends.
-pub record Done (s : State) (k at : ℕ) (d : Record) (before after : Memory) (out written : List ℕ) (r : Round) : Type 0 where
-  pub state : r .state ≡ turnOf s before d .stepped .state
-  pub memory : after ≡ turnOf s before d .memory
-  pub ends : r .at ≡ at + length (answerLine k (turnOf s before d .stepped .answer))
-  pub shows : written ≡ splice out at (answerLine k (turnOf s before d .stepped .answer))
-  pub short : length (answerLine k (turnOf s before d .stepped .answer)) ≤ 25
+-- The records of a list: 32 at the most.
+abbrev pub listRecords : ℕ
+listRecords = 32
+
+abbrev pub countOf : ℕ → ℕ
+countOf left = pick (ltb left listRecords) left listRecords
+
+-- A kind over the last is played as the last.
+abbrev pub kindOf : Record → ℕ
+kindOf d = pick (ltb (d .kind) mostKind) (d .kind) mostKind
+
+-- What c records from record `first` on come to, on a grid that began as w: the grid, and the words of their answers.
+pub record Listed (bytes : List ℕ) (w : World) (first c : ℕ) (left : World) (words : List ℕ) : Type 0 where
+  pub is : left ≡ after bytes w (first + c)
+  pub says : (i : ℕ) → i < c → answerOf (getD words i 0) ≡ turned (after bytes w (first + i)) (recordAt bytes (first + i)) .stepped .answer
+
+-- A list played: whatever the grid began as, if the records before the list left it so.
+abbrev pub Played : List ℕ → ℕ → ℕ → World → World → List ℕ → Type 0
+Played bytes first c found left words = (w : World) → found ≡ after bytes w first → Listed bytes w first c left words
+
+-- The lines of the first c words of a list.
+unfoldable pub wordLines : ℕ → List ℕ → ℕ → List ℕ
+wordLines first words zero = []
+wordLines first words (suc c) = wordLines first words c ++ answerLine (first + c) (answerOf (getD words c 0))
+
+-- A text of so many lines put into a buffer: the buffer then, and where the text ends.
+pub record Shown (count : ℕ) (out : List ℕ) (at : ℕ) (text written : List ℕ) (end : ℕ) : Type 0 where
+  pub shows : written ≡ splice out at text
+  pub ends : end ≡ at + length text
+  pub short : length text ≤ 25 * count
+
+-- What a list asks: few records, and a word for each.
+pub record Short (first c : ℕ) (words : List ℕ) : Type 0 where
+  pub few : c ≤ listRecords
+  pub number : first + c < 18446744073709551616
+  pub told : c ≤ length words
+
+-- What its lines ask: numbers of four digits, and room.
+pub record Room (first c : ℕ) (words : List ℕ) (at : ℕ) (out : List ℕ) : Type 0 where
+  pub number : first + c ≤ 10000
+  pub told : c ≤ length words
+  pub room : at + 25 * c ≤ length out
 
 -- What a schedule asks of its header, of its number of records and of the buffer.
 pub record Ready (h : Header) (n : ℕ) (out : List ℕ) : Type 0 where

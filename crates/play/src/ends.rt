@@ -2,7 +2,7 @@
 ghost use mathlib.Core.Path.{_≡_};
 ghost use Rattle.steps.specs.Memory.{memory};
 ghost use Rattle.play.specs.Play.{world, opened, after};
-use super::records;
+use super::lists;
 use lanes::State;
 use qhs::Header;
 
@@ -20,12 +20,12 @@ pub fn state_after(
 {
     let o = grid::open(h.p, h.m, h.first, h.step, readings, links, directory, pool);
     let mut s = o.state;
+    let mut words = [0u64; lists::LIST];
     let mut k: usize = 0;
     while k < n {
-        let d = qhs::record_at(bytes, k);
-        let t = records::turn(s, d, readings, links, directory, pool);
-        s = t.state;
-        k = k + 1;
+        let c = lists::count(n - k);
+        s = lists::played(bytes, k, c, s, &mut words, readings, links, directory, pool);
+        k = k + c;
     }
     s
 }

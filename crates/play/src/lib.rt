@@ -7,7 +7,7 @@ ghost use Rattle.play.specs.Inner.{Ready};
 
 pub mod ends;
 pub mod fills;
-mod records;
+mod lists;
 
 use qhs::Header;
 use qhs::Reading;
@@ -33,13 +33,13 @@ fn run(
     let o = grid::open(h.p, h.m, h.first, h.step, readings, links, directory, pool);
     let mut s = o.state;
     let mut at = text::end_of(text::put_sizes(out, 0, h.p, h.m));
+    let mut words = [0u64; lists::LIST];
     let mut k: usize = 0;
     while k < n {
-        let d = qhs::record_at(bytes, k);
-        let r = records::played(s, k, at, d, readings, links, directory, pool, out);
-        s = r.state;
-        at = r.at;
-        k = k + 1;
+        let c = lists::count(n - k);
+        s = lists::played(bytes, k, c, s, &mut words, readings, links, directory, pool);
+        at = lists::lines(k, c, &words, at, out);
+        k = k + c;
     }
     Put::End(at)
 }
