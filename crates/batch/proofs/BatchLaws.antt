@@ -1,13 +1,13 @@
 -- Each case of an entry, and the loop over the entries, as laws of their definitions.
 -- Assumes nothing.
-use Prim.Native.Nat.{ℕ, zero, suc, _+_, _<_, _≤_}
+use Prim.Native.Nat.{ℕ, _+_, _<_, _≤_}
 use mathlib.Core.Path.{_≡_, refl, sym, ap, _∙_}
 use mathlib.Core.Bool.{Bool, true, false}
 use mathlib.Core.List.{List}
 use native.Mathlib.Decide.{ℕ-discrete}
 use native.Mathlib.Omega.{arith}
 use native.Mathlib.Numerals.{add-one}
-use lib.Dec.{eqb, leb, ltb}
+use lib.Dec.{leb, ltb}
 use lib.ListN.{length, getD, set, length-set}
 use lib.Seq.{getD-set-same, getD-set-other}
 use borrow.Author.Tests.{lt-ltb, le-ltb, lt-leb, le-leb, eq-eqb, ne-eqb, ltb-true, ltb-false}
@@ -23,11 +23,10 @@ use Rattle.grid.specs.declared.Acted.{Acted}
 use Rattle.grid.specs.declared.Stepped.{Stepped}
 use Rattle.grid.specs.declared.Ask.{Ask}
 use Rattle.grid.specs.declared.Ask.the-variants as Ask
-use Rattle.grid.specs.declared.Answer.{Answer}
-use Rattle.grid.specs.Calls.{begunOf, effect, actOf, sizesOf, steppedAs, named, Effect, Outcome, outcome, outcomeAs, beginOf, verdictOf, stepOf}
+use Rattle.grid.specs.Calls.{begunOf, effect, actOf, sizesOf, steppedAs, named, Effect, Outcome, outcome, beginOf, verdictOf, stepOf}
 use Rattle.grid.specs.Inner.{laneAt, changes}
 use Rattle.grid.proofs.StateLaws.{begun-is, begun-kept, step-is, moved-kept}
-use Rattle.batch.specs.Batch.{beginning, askOf, entered, codeOf, answerOf, Batch, batch, answered, entering, onward, after, answerAt, Told, least, entries, batchOf, entryOf}
+use Rattle.batch.specs.Batch.{beginning, askOf, entered, codeOf, answerOf, Batch, batch, entering, onward, after, answerAt, Told, least, entries, batchOf, entryOf}
 use Rattle.batch.specs.Kept.{begin-keeps, step-keeps}
 
 pub first-least : (a b : ℕ) → a < b → a ≡ least a b

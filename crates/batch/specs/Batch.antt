@@ -11,7 +11,6 @@ use Rattle.refusals.specs.Numbers.{numberOf, refusalOf}
 use Rattle.refusals.specs.Orders.{pick}
 use Rattle.lanes.specs.declared.Lane.{Lane}
 use Rattle.lanes.specs.declared.State.{State}
-use Rattle.lanes.specs.Ranges.{laneOf, stateFits}
 use Rattle.steps.specs.declared.Sizes.{Sizes}
 use Rattle.steps.specs.Memory.{Memory}
 use Rattle.grid.specs.declared.Ask.{Ask}

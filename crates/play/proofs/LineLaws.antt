@@ -9,7 +9,7 @@ use lib.ListN.{length, getD, length-append}
 use Rattle.grid.specs.declared.Answer.{Answer}
 use Rattle.batch.specs.Batch.{answerOf}
 use Rattle.text.specs.declared.Put.{Put}
-use Rattle.text.specs.Text.{decimal, answerLine, splice, placed, putOf, endOf}
+use Rattle.text.specs.Text.{decimal, answerLine, placed, putOf, endOf}
 use Rattle.text.specs.Places.{put-end, splice-none, splice-length, splice-more}
 use Rattle.text.specs.Laws.{decimal-short}
 use Rattle.play.specs.Play.{World, lineAt, linesTo}

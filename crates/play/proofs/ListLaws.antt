@@ -9,7 +9,7 @@ use native.Mathlib.Omega.{arith}
 use lib.Dec.{ltb}
 use lib.ListN.{length, getD, set, take, length-set, length-take}
 use lib.Seq.{getD-set-same, getD-set-other, getD-take}
-use borrow.Author.Tests.{lt-ltb, le-ltb, eq-eqb, ne-eqb, ltb-true, ltb-false}
+use borrow.Author.Tests.{lt-ltb, le-ltb, ne-eqb, ltb-true, ltb-false}
 use Rattle.refusals.specs.Orders.{pick}
 use Rattle.qhs.specs.declared.Record.{Record}
 use Rattle.qhs.specs.Qhs.{mostKind, recordAt}
@@ -162,7 +162,8 @@ pub played-is : (bytes : List ℕ) (first c i : ℕ) (kinds processes cells valu
     → Played bytes first c (world s mem) (world r mem′) words′
 played-is bytes first c i kinds processes cells values s r mem mem′ words words′ q high f e t w start =
     listed bytes w first c (take c kinds) processes cells values fields s mem words start r mem′ words′
-    (entries-first c (take c kinds) processes cells values words (taken-long c kinds (omega (arith, q .few, f .kinds-long))) (omega (arith, q .few, f .processes-long)) (omega (arith, q .few, f .cells-long)) (omega (arith, q .few, f .values-long)) (q .told))
+    (entries-first c (take c kinds) processes cells values words (taken-long c kinds (omega (arith, q .few, f .kinds-long)))
+    (omega (arith, q .few, f .processes-long)) (omega (arith, q .few, f .cells-long)) (omega (arith, q .few, f .values-long)) (q .told))
     e t
   where
     fields : Fields bytes first c (take c kinds) processes cells values

@@ -57,8 +57,29 @@ returns-17 c = simp (c .match .keys17)
 
 returns-18 : tie.Need-returns-18
 returns-18 c =
-    let none = c .match .rest in
-    simp (ne-eqb _ _ (none .0 .0 .0 .0 .0 .0 .0 .0 .0 .0 .0 .0 .0 .0 .0 .0 .1), ne-eqb _ _ (none .0 .0 .0 .0 .0 .0 .0 .0 .0 .0 .0 .0 .0 .0 .0 .1), ne-eqb _ _ (none .0 .0 .0 .0 .0 .0 .0 .0 .0 .0 .0 .0 .0 .0 .1), ne-eqb _ _ (none .0 .0 .0 .0 .0 .0 .0 .0 .0 .0 .0 .0 .0 .1), ne-eqb _ _ (none .0 .0 .0 .0 .0 .0 .0 .0 .0 .0 .0 .0 .1), ne-eqb _ _ (none .0 .0 .0 .0 .0 .0 .0 .0 .0 .0 .0 .1), ne-eqb _ _ (none .0 .0 .0 .0 .0 .0 .0 .0 .0 .0 .1), ne-eqb _ _ (none .0 .0 .0 .0 .0 .0 .0 .0 .0 .1), ne-eqb _ _ (none .0 .0 .0 .0 .0 .0 .0 .0 .1), ne-eqb _ _ (none .0 .0 .0 .0 .0 .0 .0 .1), ne-eqb _ _ (none .0 .0 .0 .0 .0 .0 .1), ne-eqb _ _ (none .0 .0 .0 .0 .0 .1), ne-eqb _ _ (none .0 .0 .0 .0 .1), ne-eqb _ _ (none .0 .0 .0 .1), ne-eqb _ _ (none .0 .0 .1), ne-eqb _ _ (none .0 .1), ne-eqb _ _ (none .1))
+    let d = c .match .rest in
+    let e = d .0 .0 .0 .0 in
+    let f = e .0 .0 .0 .0 in
+    let g = f .0 .0 .0 .0 in
+    simp (
+      ne-eqb _ _ (g .0 .0 .0 .0 .1),
+      ne-eqb _ _ (g .0 .0 .0 .1),
+      ne-eqb _ _ (g .0 .0 .1),
+      ne-eqb _ _ (g .0 .1),
+      ne-eqb _ _ (g .1),
+      ne-eqb _ _ (f .0 .0 .0 .1),
+      ne-eqb _ _ (f .0 .0 .1),
+      ne-eqb _ _ (f .0 .1),
+      ne-eqb _ _ (f .1),
+      ne-eqb _ _ (e .0 .0 .0 .1),
+      ne-eqb _ _ (e .0 .0 .1),
+      ne-eqb _ _ (e .0 .1),
+      ne-eqb _ _ (e .1),
+      ne-eqb _ _ (d .0 .0 .0 .1),
+      ne-eqb _ _ (d .0 .0 .1),
+      ne-eqb _ _ (d .0 .1),
+      ne-eqb _ _ (d .1),
+    )
 
 pub of-number-spec : {M : Type 1} → statement M
 of-number-spec =
