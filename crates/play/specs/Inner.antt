@@ -20,7 +20,7 @@ listRecords = 32
 abbrev pub countOf : ℕ → ℕ
 countOf left = pick (ltb left listRecords) left listRecords
 
--- A kind over the last is played as the last.
+-- A kind as an entry of a batch has it: one over the last is played as the last.
 abbrev pub kindOf : Record → ℕ
 kindOf d = pick (ltb (d .kind) mostKind) (d .kind) mostKind
 

@@ -17,7 +17,7 @@ pub fn count(left: usize) -> usize
     if left < LIST { left } else { LIST }
 }
 
-// A kind over the last is played as the last.
+// In a batch the last kind alone begins an asked; in a schedule every kind from it on does.
 fn kind_of(d: Record) -> u8
     ensures { λ r. ⌜ r ≡ kindOf d ⌝ }
 {
