@@ -48,13 +48,17 @@ uint32_t batch_operations(uint32_t *readings, size_t readings_len, uint64_t *lin
                      entries, cells, entries, values, entries, answers, entries, p, m);
 }
 
-// The batch's words count from "begun".
-static enum what what_of(uint64_t answer) { return (answer & 0xff) + 1; }
+// The batch's words count from "begun", and have a read's flag at 2^16.
+static enum what what_of(uint64_t answer)
+{
+    enum what what = (answer & 0xff) + 1;
+    return what == READ_ENDED && answer >> 16 & 1 ? READ_WRITTEN : what;
+}
 
 static uint64_t word_of(uint64_t answer)
 {
     enum what what = what_of(answer);
-    uint64_t count = answer >> 8 & 0xffffff;
+    uint64_t count = answer >> 8 & 0xff;
     return (uint64_t)what << 40 | (what == REFUSED ? count : count << 32 | answer >> 32);
 }
 

@@ -191,7 +191,7 @@ struct answer cgrid_step(struct grid *g, uint32_t q, const struct memories *mem)
             return end(l, WRITTEN, 0);
         return last ? refused(9) : go(l, FETCH);
     case FETCH:
-        return end(l, READ_ENDED, mem->readings[l->cell]);
+        return end(l, READ_WRITTEN, mem->readings[l->cell]);
     case DRAW:
         at = g->top + size_of(segment_of(l->place));
         if (last || at > mem->pool_len)

@@ -37,7 +37,8 @@ struct memories {
     size_t pool_len;
 };
 
-enum what { OPENED, BEGUN, GOING, READ_ENDED, WRITTEN, ASKED_ENDED, REFUSED };
+// A read of a cell that is not written ends as READ_ENDED, of a written one as READ_WRITTEN.
+enum what { OPENED, BEGUN, GOING, READ_ENDED, WRITTEN, ASKED_ENDED, REFUSED, READ_WRITTEN };
 
 struct answer {
     uint8_t what, steps;

@@ -187,7 +187,8 @@ static void handed(uint32_t p, uint32_t m, uint32_t steps, const char *part, siz
         if (took < best)
             best = took;
     }
-    uint64_t expected = (uint64_t)READ_ENDED << 40 | (uint64_t)steps << 32 | (steps == 5 ? 9 : 7);
+    uint64_t ended = steps == 5 ? READ_WRITTEN : READ_ENDED, value = steps == 5 ? 9 : 7;
+    uint64_t expected = ended << 40 | (uint64_t)steps << 32 | value;
     for (size_t i = 0; i < n; i++)
         if (x->outcomes[i] != expected)
             differ(&r, "an answer");

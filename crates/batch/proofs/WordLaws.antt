@@ -1,8 +1,8 @@
 -- An answer's word and a word's answer, as laws of their definitions.
 -- Assumes nothing.
-use Prim.Native.Nat.{ℕ, _/_, _%_, _<_}
+use Prim.Native.Nat.{ℕ, _+_, _/_, _%_, _<_}
 use mathlib.Core.Path.{_≡_, ap, _∙_}
-use mathlib.Core.Bool.{Bool}
+use mathlib.Core.Bool.{Bool, true, false}
 use native.Mathlib.Omega.{arith}
 use lib.Dec.{eqb}
 use borrow.Author.Tests.{ne-eqb}
@@ -10,11 +10,19 @@ use Rattle.refusals.specs.Numbers.{numberOf, refusalOf}
 use Rattle.refusals.specs.declared.Refusal.{Refusal}
 use Rattle.grid.specs.declared.Answer.{Answer}
 use Rattle.grid.specs.declared.Answer.the-variants as Answer
-use Rattle.batch.specs.Batch.{codeWith, bit, codeOf, answerOf}
+use Rattle.batch.specs.Batch.{codeWith, bit, countOf, codeOf, answerOf}
 use Rattle.batch.specs.Words.{stepsOf, number-few, answer-back}
 
 pub refusal-few : (n : ℕ) (r : Refusal) → n ≡ numberOf r → (5 < 256) × (n < 16777216)
 refusal-few n r e = (omega arith, omega (arith, number-few r))
+
+-- a read's steps with its flag
+module _ (b : Bool) (n : ℕ) (few : n < 256) where
+  pub count-written : b ≡ true → (256 + n ≡ countOf b n) × (256 + n < 16777216)
+  count-written h = (rw h (omega arith), omega arith)
+
+  pub count-unwritten : b ≡ false → (n ≡ countOf b n) × (n < 16777216)
+  count-unwritten h = (rw h (omega arith), omega arith)
 
 module _ (a : Answer) (c : ℕ) where
   abbrev pub Coded : Type 0
@@ -29,8 +37,8 @@ module _ (a : Answer) (c : ℕ) where
   pub code-going : a ≡ Answer.Going → c ≡ codeWith 1 0 0 → Coded
   code-going e h = coded (rw e (omega arith)) (rw e h)
 
-  pub code-read : (v n : ℕ) → n < 256 → a ≡ Answer.Read v n → c ≡ codeWith 2 n v → Coded
-  code-read v n low e h = coded (rw e low) (rw e h)
+  pub code-read : (v n k : ℕ) (b : Bool) → n < 256 → a ≡ Answer.Read v b n → k ≡ countOf b n → c ≡ codeWith 2 k v → Coded
+  code-read v n k b low e f h = coded (rw e low) (rw e (h ∙ rw f))
 
   pub code-written : (n : ℕ) → n < 256 → a ≡ Answer.Written n → c ≡ codeWith 3 n 0 → Coded
   code-written n low e h = coded (rw e low) (rw e h)
@@ -51,7 +59,7 @@ module _ (w : ℕ) where
   unfolding answerOf
   said-going e = simp e
 
-  pub said-read : w % 256 ≡ 2 → Answer.Read (w / 4294967296) (w / 256 % 256) ≡ answerOf w
+  pub said-read : w % 256 ≡ 2 → Answer.Read (w / 4294967296) (eqb (w / 65536 % 256) 1) (w / 256 % 256) ≡ answerOf w
   unfolding answerOf
   said-read e = simp e
 

@@ -29,7 +29,8 @@ askOf kind i v = pick (eqb kind 1) (Ask.Read i) (pick (eqb kind 2) (Ask.Write i 
 abbrev pub entered : State → Memory → ℕ → ℕ → Cell → ℕ → Outcome
 entered s mem kind q i v = pick (beginning kind) (outcome (beginOf s q (askOf kind i v)) mem) (stepOf s q mem)
 
--- An answer as a word: its kind, 256 times its steps or its refusal's number, 2^32 times its value.
+-- An answer as a word: its kind, 256 times its steps or its refusal's number, 2^16 for a read of a written cell, 2^32 times its
+-- value.
 abbrev pub codeWith : ℕ → ℕ → ℕ → ℕ
 codeWith kind count value = kind + 256 * count + 4294967296 * value
 
@@ -37,26 +38,29 @@ abbrev pub bit : Bool → ℕ
 bit true = 1
 bit false = 0
 
+abbrev pub countOf : Bool → ℕ → ℕ
+countOf b n = n + 256 * bit b
+
 abbrev pub codeOf : Answer → ℕ
 codeOf Answer.Begun = codeWith 0 0 0
 codeOf Answer.Going = codeWith 1 0 0
-codeOf (Answer.Read v n) = codeWith 2 n v
+codeOf (Answer.Read v b n) = codeWith 2 (countOf b n) v
 codeOf (Answer.Written n) = codeWith 3 n 0
 codeOf (Answer.Asked b n) = codeWith 4 n (bit b)
 codeOf (Answer.Refused r) = codeWith 5 (numberOf r) 0
 
 -- And back: the answer that a word says.
-abbrev pub answerAs : ℕ → ℕ → ℕ → Answer
-answerAs kind count value =
+abbrev pub answerAs : ℕ → ℕ → ℕ → ℕ → Answer
+answerAs kind count flag value =
     pick (eqb kind 0) Answer.Begun
     (pick (eqb kind 1) Answer.Going
-    (pick (eqb kind 2) (Answer.Read value count)
+    (pick (eqb kind 2) (Answer.Read value (eqb flag 1) count)
     (pick (eqb kind 3) (Answer.Written count)
     (pick (eqb kind 4) (Answer.Asked (eqb value 1) count)
     (Answer.Refused (refusalOf count))))))
 
 unfoldable pub answerOf : ℕ → Answer
-answerOf w = answerAs (w % 256) (w / 256 % 256) (w / 4294967296)
+answerOf w = answerAs (w % 256) (w / 256 % 256) (w / 65536 % 256) (w / 4294967296)
 
 -- What the entries leave: the state, the memories and the words of the answers.
 pub record Batch : Type 0 where

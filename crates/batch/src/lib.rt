@@ -6,7 +6,7 @@ ghost use Rattle.lanes.specs.Ranges.{stateFits};
 ghost use Rattle.steps.specs.Memory.{memory};
 ghost use Rattle.grid.specs.Calls.{effect};
 ghost use Rattle.grid.specs.Inner.{Judged};
-ghost use Rattle.batch.specs.Batch.{least, bit, codeWith, codeOf, answerOf, beginning, askOf, entryOf, batch, entries, batchOf, Told};
+ghost use Rattle.batch.specs.Batch.{least, bit, countOf, codeWith, codeOf, answerOf, beginning, askOf, entryOf, batch, entries, batchOf, Told};
 use grid::Acted;
 use grid::Answer;
 use grid::Ask;
@@ -50,6 +50,13 @@ fn bit(b: bool) -> u32
     if b { 1 } else { 0 }
 }
 
+// A read's steps, with its flag.
+fn count_of(b: bool, n: u8) -> u32
+    ensures { λ r. ⌜ (r ≡ countOf b n) × (r < 16777216) ⌝ }
+{
+    if b { 256 + n as u32 } else { n as u32 }
+}
+
 fn code_of(a: Answer) -> u64
     ensures { λ r. ⌜ r ≡ codeOf a ⌝ }
     ensures { λ r. ⌜ answerOf r ≡ a ⌝ }
@@ -57,7 +64,7 @@ fn code_of(a: Answer) -> u64
     match a {
         Answer::Begun => code(0, 0, 0),
         Answer::Going => code(1, 0, 0),
-        Answer::Read(v, n) => code(2, n as u32, v),
+        Answer::Read(v, b, n) => code(2, count_of(b, n), v),
         Answer::Written(n) => code(3, n as u32, 0),
         Answer::Asked(b, n) => code(4, n as u32, bit(b)),
         Answer::Refused(r) => code(5, refusals::number(r), 0),
@@ -69,11 +76,12 @@ pub fn answer_of(w: u64) -> Answer
     ensures { λ r. ⌜ r ≡ answerOf w ⌝ }
 {
     let count = (w / 256 % 256) as u8;
+    let flag = w / 65536 % 256;
     let value = (w / 4294967296) as u32;
     match w % 256 {
         0 => Answer::Begun,
         1 => Answer::Going,
-        2 => Answer::Read(value, count),
+        2 => Answer::Read(value, flag == 1, count),
         3 => Answer::Written(count),
         4 => Answer::Asked(value == 1, count),
         _ => Answer::Refused(refusals::of_number(count as u32)),

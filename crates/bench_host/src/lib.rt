@@ -22,7 +22,7 @@ pub fn word_of(a: Answer) -> u64 {
     match a {
         Answer::Begun => packed(1, 0, 0),
         Answer::Going => packed(2, 0, 0),
-        Answer::Read(v, k) => packed(3, k, v),
+        Answer::Read(v, b, k) => packed(if b { 7 } else { 3 }, k, v),
         Answer::Written(k) => packed(4, k, 0),
         Answer::Asked(b, k) => packed(5, k, b as u32),
         Answer::Refused(r) => packed(6, 0, refusals::number(r)),
@@ -37,7 +37,7 @@ fn turns(k: u32, a: Answer) -> u32
     match a {
         Answer::Begun => k + 1,
         Answer::Going => k + 1,
-        Answer::Read(_, _) => MOST,
+        Answer::Read(_, _, _) => MOST,
         Answer::Written(_) => MOST,
         Answer::Asked(_, _) => MOST,
         Answer::Refused(_) => MOST,

@@ -37,9 +37,10 @@ fn told(buf: &mut [u8], at: usize, a: Answer) -> usize {
     match a {
         Answer::Begun => out::bytes(buf, at, b"begun"),
         Answer::Going => out::bytes(buf, at, b"going"),
-        Answer::Read(v, n) => {
+        Answer::Read(v, b, n) => {
             let e = out::bytes(buf, at, b"read");
-            two(buf, e, v as u64, n as u64)
+            let e = out::next_number(buf, e, v as u64);
+            two(buf, e, bit(b), n as u64)
         }
         Answer::Written(n) => {
             let e = out::bytes(buf, at, b"written");

@@ -80,7 +80,7 @@ a-refused-begin-changes-nothing s q a r h =
 
 not-refused : (n : ℕ) (nx : Next) (r : Refusal) → answerOf n nx ≡ Answer.Refused r → ⊥
 not-refused n (Next.Going o) r h = let y : _≡_ {A = ℕ} 0 1 = cc in omega arith
-not-refused n (Next.Read v) r h = let y : _≡_ {A = ℕ} 0 1 = cc in omega arith
+not-refused n (Next.Read v b) r h = let y : _≡_ {A = ℕ} 0 1 = cc in omega arith
 not-refused n Next.Written r h = let y : _≡_ {A = ℕ} 0 1 = cc in omega arith
 not-refused n (Next.Asked b) r h = let y : _≡_ {A = ℕ} 0 1 = cc in omega arith
 

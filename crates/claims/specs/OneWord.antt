@@ -47,13 +47,13 @@ lane-other s q l t r k = getD-set-other (s .lanes) q r l rest k
 
 same-marks : (nx : Next) (l : Lane) → advance nx l .marks ≡ l .marks
 same-marks (Next.Going o) l = refl
-same-marks (Next.Read v) l = refl
+same-marks (Next.Read v b) l = refl
 same-marks Next.Written l = refl
 same-marks (Next.Asked b) l = refl
 
 same-drawn : (nx : Next) (l : Lane) → advance nx l .drawn ≡ l .drawn
 same-drawn (Next.Going o) l = refl
-same-drawn (Next.Read v) l = refl
+same-drawn (Next.Read v b) l = refl
 same-drawn Next.Written l = refl
 same-drawn (Next.Asked b) l = refl
 

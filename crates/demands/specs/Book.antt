@@ -69,7 +69,7 @@ ends b q (busy began a taken) x = counted b q nothing (finished b q began a x �
 abbrev pub noteBegin : Book → ℕ → Ask → Answer → Book
 noteBegin b q a Answer.Begun = begun b q a
 noteBegin b q a Answer.Going = passed b
-noteBegin b q a (Answer.Read v n) = passed b
+noteBegin b q a (Answer.Read v t n) = passed b
 noteBegin b q a (Answer.Written n) = passed b
 noteBegin b q a (Answer.Asked t n) = passed b
 noteBegin b q a (Answer.Refused r) = passed b
@@ -77,7 +77,7 @@ noteBegin b q a (Answer.Refused r) = passed b
 abbrev pub noteStep : Book → ℕ → Answer → Book
 noteStep b q Answer.Begun = passed b
 noteStep b q Answer.Going = goesOn b q (b .doing q)
-noteStep b q (Answer.Read v n) = ends b q (b .doing q) (got v)
+noteStep b q (Answer.Read v t n) = ends b q (b .doing q) (got v t)
 noteStep b q (Answer.Written n) = ends b q (b .doing q) done
 noteStep b q (Answer.Asked t n) = ends b q (b .doing q) (told t)
 noteStep b q (Answer.Refused r) = passed b

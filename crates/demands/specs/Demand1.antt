@@ -21,7 +21,7 @@ pub data Kind : Type 0 where
 abbrev pub kind : Answer → Kind
 kind Answer.Begun = begins
 kind Answer.Going = steps
-kind (Answer.Read v n) = steps
+kind (Answer.Read v t n) = steps
 kind (Answer.Written n) = steps
 kind (Answer.Asked t n) = steps
 kind (Answer.Refused r) = refused r

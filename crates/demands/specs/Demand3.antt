@@ -22,7 +22,7 @@ Reports most taken n = (n ≡ taken) × (n ≤ most)
 abbrev pub Answers : ℕ → ℕ → Answer → Type 0
 Answers most taken Answer.Begun = ⊥
 Answers most taken Answer.Going = taken < most
-Answers most taken (Answer.Read v n) = Reports most taken n
+Answers most taken (Answer.Read v t n) = Reports most taken n
 Answers most taken (Answer.Written n) = Reports most taken n
 Answers most taken (Answer.Asked t n) = Reports most taken n
 Answers most taken (Answer.Refused r) = Unit {0}
@@ -31,7 +31,7 @@ Answers most taken (Answer.Refused r) = Unit {0}
 abbrev pub Refuses : Answer → Type 0
 Refuses Answer.Begun = ⊥
 Refuses Answer.Going = ⊥
-Refuses (Answer.Read v n) = ⊥
+Refuses (Answer.Read v t n) = ⊥
 Refuses (Answer.Written n) = ⊥
 Refuses (Answer.Asked t n) = ⊥
 Refuses (Answer.Refused r) = Unit {0}

@@ -34,7 +34,7 @@ Stores mem (Change.Top top drawn) = Unit {0}
 -- the operation that goes on is the one asked, and holds the start x if it holds one
 abbrev pub Carries : Ask → ℕ → Next → Type 0
 Carries a x (Next.Going o) = Does a o × Held o x
-Carries a x (Next.Read v) = Unit {0}
+Carries a x (Next.Read v t) = Unit {0}
 Carries a x Next.Written = Unit {0}
 Carries a x (Next.Asked t) = Unit {0}
 

@@ -107,7 +107,7 @@ module _ (i x : ℕ) where
   begin-quiet : {b : Book} (q : ℕ) (a : Ask) (y : Answer) → Other (kindOf a) (cellOf a .0) → Quiet b → Quiet (noteBegin b q a y)
   begin-quiet {b} q a Answer.Begun s Q = record { ended = Q .ended; doing = doing-upd (b .doing) q _ s (Q .doing) }
   begin-quiet q a Answer.Going s Q = pass-quiet Q
-  begin-quiet q a (Answer.Read v n) s Q = pass-quiet Q
+  begin-quiet q a (Answer.Read v t n) s Q = pass-quiet Q
   begin-quiet q a (Answer.Written n) s Q = pass-quiet Q
   begin-quiet q a (Answer.Asked t n) s Q = pass-quiet Q
   begin-quiet q a (Answer.Refused r) s Q = pass-quiet Q
@@ -115,7 +115,7 @@ module _ (i x : ℕ) where
   step-quiet : {b : Book} (q : ℕ) (y : Answer) → Quiet b → Quiet (noteStep b q y)
   step-quiet q Answer.Begun Q = pass-quiet Q
   step-quiet {b} q Answer.Going Q = goes-quiet q (b .doing q) (Q .doing q) Q
-  step-quiet {b} q (Answer.Read v n) Q = ends-quiet q (b .doing q) (got v) (Q .doing q) Q
+  step-quiet {b} q (Answer.Read v t n) Q = ends-quiet q (b .doing q) (got v t) (Q .doing q) Q
   step-quiet {b} q (Answer.Written n) Q = ends-quiet q (b .doing q) done (Q .doing q) Q
   step-quiet {b} q (Answer.Asked t n) Q = ends-quiet q (b .doing q) (told t) (Q .doing q) Q
   step-quiet q (Answer.Refused r) Q = pass-quiet Q
@@ -152,12 +152,12 @@ found P (d ∷ ds) h = by (P d) refl h (found P ds)
 
 -- an answer shows a cell written that held y at first; an answer has it hold x, or be empty
 abbrev pub shows : ℕ → Ans → Bool
-shows y (got x) = not (eqb x y)
+shows y (got x t) = pick t true (not (eqb x y))
 shows y (told t) = t
 shows y done = true
 
 abbrev pub denies : ℕ → Ans → Bool
-denies x (got v) = eqb v x
+denies x (got v t) = pick t (eqb v x) true
 denies x (told t) = not t
 denies x done = false
 
@@ -194,7 +194,8 @@ no-one-order f i x hs q v O = denied (e .0 .ans) (knows) (and-right (eqb (e .0 .
     e-cell = eqb-true (e .0 .cell) i (and-left (eqb (e .0 .cell) i) (denies x (e .0 .ans)) (and-right (ltb (d .0 .ended) (e .0 .began)) _ (e .2)))
 
     showed : (a : Ans) → shows (f i) a ≡ true → Shows (f i) a
-    showed (got v) h = λ k. let z : false ≡ true = rw (eq-eqb v (f i) k) at h in absurd (let y : _≡_ {A = ℕ} 0 1 = cc in omega arith)
+    showed (got v true) h = inr refl
+    showed (got v false) h = inl (λ k. let z : false ≡ true = rw (eq-eqb v (f i) k) at h in absurd (let y : _≡_ {A = ℕ} 0 1 = cc in omega arith))
     showed (told t) h = h
     showed done h = tt
 
@@ -206,7 +207,8 @@ no-one-order f i x hs q v O = denied (e .0 .ans) (knows) (and-right (eqb (e .0 .
         (subst (λ (c : ℕ). Shows (f c) (d .0 .ans)) (sym e-cell) (showed (d .0 .ans) (and-left (shows (f i) (d .0 .ans)) _ (and-right (eqb (d .0 .cell) i) _ (d .2))))))
 
     denied : (a : Ans) → Knows b i a → denies x a ≡ true → ⊥
-    denied (got v) k h = not-wrote i x Q (subst (Wrote b i) (eqb-true v x h) k)
+    denied (got v true) k h = not-wrote i x Q (subst (Wrote b i) (eqb-true v x h) (k .0))
+    denied (got v false) k h = let z : false ≡ true = k .1 in let y : _≡_ {A = ℕ} 0 1 = cc in omega arith
     denied (told true) k h = let y : _≡_ {A = ℕ} 0 1 = cc in omega arith
     denied (told false) k h = let y : _≡_ {A = ℕ} 0 1 = cc in omega arith
     denied done k h = let y : _≡_ {A = ℕ} 0 1 = cc in omega arith

@@ -24,13 +24,13 @@ use Rattle.demands.specs.Keep.{field-set, field-same, mem-as}
 
 abbrev pub doingAfter : ℕ → Ask → ℕ → Next → Doing
 doingAfter began a taken (Next.Going o) = busy began a (suc taken)
-doingAfter began a taken (Next.Read v) = nothing
+doingAfter began a taken (Next.Read v t) = nothing
 doingAfter began a taken Next.Written = nothing
 doingAfter began a taken (Next.Asked t) = nothing
 
 abbrev pub endedAfter : Book → ℕ → ℕ → Ask → Next → List Theory.Done
 endedAfter b q began a (Next.Going o) = b .ended
-endedAfter b q began a (Next.Read v) = finished b q began a (Theory.got v) ∷ b .ended
+endedAfter b q began a (Next.Read v t) = finished b q began a (Theory.got v t) ∷ b .ended
 endedAfter b q began a Next.Written = finished b q began a Theory.done ∷ b .ended
 endedAfter b q began a (Next.Asked t) = finished b q began a (Theory.told t) ∷ b .ended
 
@@ -40,7 +40,7 @@ bookAfter b q began a taken next = counted b q (doingAfter began a taken next) (
 pub note-step : (b : Book) (q n : ℕ) {began taken : ℕ} {a : Ask} (next : Next) → b .doing q ≡ busy began a taken
     → noteStep b q (answerOf n next) ≡ bookAfter b q began a taken next
 note-step b q n (Next.Going o) e = rw e
-note-step b q n (Next.Read v) e = rw e
+note-step b q n (Next.Read v t) e = rw e
 note-step b q n Next.Written e = rw e
 note-step b q n (Next.Asked t) e = rw e
 
@@ -57,7 +57,7 @@ keeps-lengths (Change.Top top drawn) L = L
 
 advanced : (next : Next) (l : Lane) → (advance next l .marks ≡ l .marks) × (advance next l .drawn ≡ l .drawn)
 advanced (Next.Going o) l = (refl, refl)
-advanced (Next.Read v) l = (refl, refl)
+advanced (Next.Read v t) l = (refl, refl)
 advanced Next.Written l = (refl, refl)
 advanced (Next.Asked t) l = (refl, refl)
 
@@ -72,19 +72,19 @@ steps-same (Change.Top top drawn) l = refl
 
 agrees-after : (a : Ask) (began taken x : ℕ) (next : Next) (l : Lane) → l .steps ≡ taken → Carries a x next → LaneAgrees (advance next l) (doingAfter began a taken next)
 agrees-after a began taken x (Next.Going o) l e c = (c .0, omega arith)
-agrees-after a began taken x (Next.Read v) l e c = (refl, refl)
+agrees-after a began taken x (Next.Read v t) l e c = (refl, refl)
 agrees-after a began taken x Next.Written l e c = (refl, refl)
 agrees-after a began taken x (Next.Asked t) l e c = (refl, refl)
 
 held-after : (a : Ask) (x : ℕ) (next : Next) (l : Lane) → Carries a x next → Held (advance next l .op) x
 held-after a x (Next.Going o) l c = c .1
-held-after a x (Next.Read v) l c = tt
+held-after a x (Next.Read v t) l c = tt
 held-after a x Next.Written l c = tt
 held-after a x (Next.Asked t) l c = tt
 
 lane-after : (a : Ask) (began taken : ℕ) (next : Next) (l : Lane) → Theory.nextLane (kindOf a) (cellOf a .0) (nextOf next) ≡ laneFor (doingAfter began a taken next) (advance next l .op)
 lane-after a began taken (Next.Going o) l = refl
-lane-after a began taken (Next.Read v) l = refl
+lane-after a began taken (Next.Read v t) l = refl
 lane-after a began taken Next.Written l = refl
 lane-after a began taken (Next.Asked t) l = refl
 
@@ -130,7 +130,7 @@ module _ {s : State} {mem : Memory} {b : Book} (H : Good s mem b) (q : ℕ) {beg
 
   ended-path : (next : Next) → Theory.finish (behind H .watch) q (kindOf a) (cellOf a .0) (nextOf next) ≡ endedAfter b q began a next
   ended-path (Next.Going o) = refl
-  ended-path (Next.Read v) = ap (λ (d : Doing). finished b q (sinceOf d) a (Theory.got v) ∷ b .ended) e
+  ended-path (Next.Read v t) = ap (λ (d : Doing). finished b q (sinceOf d) a (Theory.got v t) ∷ b .ended) e
   ended-path Next.Written = ap (λ (d : Doing). finished b q (sinceOf d) a Theory.done ∷ b .ended) e
   ended-path (Next.Asked t) = ap (λ (d : Doing). finished b q (sinceOf d) a (Theory.told t) ∷ b .ended) e
 
@@ -155,7 +155,7 @@ module _ {s : State} {mem : Memory} {b : Book} (H : Good s mem b) (q : ℕ) {beg
       own-lane : (next : Next) → Theory.nextLane (kindOf a) (cellOf a .0) (nextOf next) ≡ Theory.busy o i x
           → (sinceOf (doingAfter began a taken next) ≡ sinceOf (b .doing q)) × (takenOf (doingAfter began a taken next) ≡ suc (takenOf (b .doing q)))
       own-lane (Next.Going o) k = rw e (refl, refl)
-      own-lane (Next.Read v) k = absurd (let y : _≡_ {A = ℕ} 0 1 = cc in omega arith)
+      own-lane (Next.Read v t) k = absurd (let y : _≡_ {A = ℕ} 0 1 = cc in omega arith)
       own-lane Next.Written k = absurd (let y : _≡_ {A = ℕ} 0 1 = cc in omega arith)
       own-lane (Next.Asked t) k = absurd (let y : _≡_ {A = ℕ} 0 1 = cc in omega arith)
 

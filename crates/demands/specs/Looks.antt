@@ -95,7 +95,7 @@ module _ {s : State} {mem : Memory} {b : Book} (H : Good s mem b) (q : ℕ) wher
 
   read-says : (i : Cell) (x : ℕ) (f : Found) → Fine x f → Says (Ask.Read i) x f (readTurn (s .first) (s .step) i f)
   read-says i x (Found.On c) fine = record { next = Next.Going (Op.Read i c); is = refl; same = refl; carries = (refl, fine) }
-  read-says i x (Found.NotWritten w) fine = record { next = Next.Read (fillOf (s .first) (s .step) (i .0)); is = refl; same = refl; carries = tt }
+  read-says i x (Found.NotWritten w) fine = record { next = Next.Read (fillOf (s .first) (s .step) (i .0)) false; is = refl; same = refl; carries = tt }
   read-says i x Found.Written fine = record { next = Next.Going (Op.Reading i); is = refl; same = refl; carries = (refl, tt) }
 
   asked-says : (i : Cell) (x : ℕ) (f : Found) → Fine x f → Says (Ask.Asked i) x f (askedTurn i f)
@@ -112,7 +112,7 @@ module _ {s : State} {mem : Memory} {b : Book} (H : Good s mem b) (q : ℕ) wher
   pub goes-reading : (i : Cell) → Goes H q (Ask.Read i) (Op.Reading i)
   goes-reading i = record {
     change = Change.Nothing;
-    next = Next.Read (getD (mem .readings) (i .0) 0);
+    next = Next.Read (getD (mem .readings) (i .0) 0) true;
     start = H .held q;
     turned = refl;
     same = refl;

@@ -27,11 +27,21 @@ cell i = record { 0 = i }
 abbrev pub incident : List (Heard 2 1)
 incident =
     hear (begin 0 (Ask.Write (cell 0) 9)) Answer.Begun ∷ hear (step 0) (Answer.Written 1) ∷ hear (begin 1 (Ask.Read (cell 0))) Answer.Begun
-    ∷ hear (step 1) (Answer.Read 9 1) ∷ hear (begin 1 (Ask.Read (cell 0))) Answer.Begun ∷ hear (step 1) (Answer.Read 7 1) ∷ []
+    ∷ hear (step 1) (Answer.Read 9 true 1) ∷ hear (begin 1 (Ask.Read (cell 0))) Answer.Begun ∷ hear (step 1) (Answer.Read 7 false 1) ∷ []
 
 pub incident-lost : OneOrder (fillOf 7 0) (recount blank incident) → ⊥
 unfolding recount quiet upd ℕ-discrete
 incident-lost = no-one-order (fillOf 7 0) 0 7 incident refl refl
+
+-- zero load or no load: a loader writes 0 where 0 was filled in, and a read says "not written"
+abbrev pub zeroLoad : List (Heard 2 1)
+zeroLoad =
+    hear (begin 0 (Ask.Write (cell 0) 0)) Answer.Begun ∷ hear (step 0) (Answer.Written 1) ∷ hear (begin 1 (Ask.Read (cell 0))) Answer.Begun
+    ∷ hear (step 1) (Answer.Read 0 false 1) ∷ []
+
+pub zero-load-lost : OneOrder (fillOf 0 0) (recount blank zeroLoad) → ⊥
+unfolding recount quiet upd ℕ-discrete
+zero-load-lost = no-one-order (fillOf 0 0) 0 5 zeroLoad refl refl
 
 -- the same by the written-or-not question, while the write is under way
 abbrev pub question : List (Heard 2 1)

@@ -67,7 +67,7 @@ module _ {s : State} {mem : Memory} {b : Book} (H : Good s mem b) where
 
   reports : (most n taken : ℕ) (nx : Next) → n ≡ taken → taken < most → ((o : _) → nx ≡ Next.Going o → suc taken < most) → Answers most (suc taken) (Grid.answerOf n nx)
   reports most n taken (Next.Going o) e h k = k o refl
-  reports most n taken (Next.Read v) e h k = (omega arith, omega arith)
+  reports most n taken (Next.Read v t) e h k = (omega arith, omega arith)
   reports most n taken Next.Written e h k = (omega arith, omega arith)
   reports most n taken (Next.Asked t) e h k = (omega arith, omega arith)
 

@@ -54,7 +54,7 @@ begin-returns s q a r =
 
 pub answers : (n : ℕ) (next : Next) → kind (Grid.answerOf n next) ≡ steps
 answers n (Next.Going o) = refl
-answers n (Next.Read v) = refl
+answers n (Next.Read v t) = refl
 answers n Next.Written = refl
 answers n (Next.Asked t) = refl
 

@@ -93,7 +93,7 @@ changeOf (Change.Top top drawn) = Theory.setDrawn drawn
 
 abbrev pub nextOf : Next → Theory.Next
 nextOf (Next.Going o) = Theory.go (stageOf o)
-nextOf (Next.Read v) = Theory.end (Theory.got v)
+nextOf (Next.Read v t) = Theory.end (Theory.got v t)
 nextOf Next.Written = Theory.end Theory.done
 nextOf (Next.Asked t) = Theory.end (Theory.told t)
 

@@ -43,7 +43,7 @@ refuser-breaks-the-table D =
 abbrev fixedAnswer : Answer → Answer
 fixedAnswer Answer.Begun = Answer.Begun
 fixedAnswer Answer.Going = Answer.Going
-fixedAnswer (Answer.Read v n) = Answer.Read 7 n
+fixedAnswer (Answer.Read v t n) = Answer.Read 7 t n
 fixedAnswer (Answer.Written n) = Answer.Written n
 fixedAnswer (Answer.Asked t n) = Answer.Asked t n
 fixedAnswer (Answer.Refused r) = Answer.Refused r
@@ -65,7 +65,7 @@ fixed-breaks-the-order O =
 abbrev goingOn : State → Memory → Answer → Outcome
 goingOn s mem Answer.Begun = outcome (record { state = s; answer = Answer.Going }) mem
 goingOn s mem Answer.Going = outcome (record { state = s; answer = Answer.Going }) mem
-goingOn s mem (Answer.Read v n) = outcome (record { state = s; answer = Answer.Going }) mem
+goingOn s mem (Answer.Read v t n) = outcome (record { state = s; answer = Answer.Going }) mem
 goingOn s mem (Answer.Written n) = outcome (record { state = s; answer = Answer.Going }) mem
 goingOn s mem (Answer.Asked t n) = outcome (record { state = s; answer = Answer.Going }) mem
 goingOn s mem (Answer.Refused r) = outcome (refusedOn s r) mem
@@ -125,7 +125,7 @@ hasty-breaks-the-list L =
 abbrev oneMore : Answer → Answer
 oneMore Answer.Begun = Answer.Begun
 oneMore Answer.Going = Answer.Going
-oneMore (Answer.Read v n) = Answer.Read v (n + 1)
+oneMore (Answer.Read v t n) = Answer.Read v t (n + 1)
 oneMore (Answer.Written n) = Answer.Written (n + 1)
 oneMore (Answer.Asked t n) = Answer.Asked t (n + 1)
 oneMore (Answer.Refused r) = Answer.Refused r
@@ -145,7 +145,7 @@ inventor-breaks-the-count C = let h : _≡_ {A = ℕ} 2 1 = C 0 .0 in omega arit
 abbrev endsAgain : Outcome → ℕ → Answer → Outcome
 endsAgain o q Answer.Begun = o
 endsAgain o q Answer.Going = o
-endsAgain o q (Answer.Read v n) = o
+endsAgain o q (Answer.Read v t n) = o
 endsAgain o q (Answer.Asked t n) = o
 endsAgain o q (Answer.Refused r) = o
 endsAgain o q (Answer.Written n) =

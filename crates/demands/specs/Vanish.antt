@@ -2,7 +2,7 @@
 -- Assumes nothing.
 use Prim.Native.Nat.{ℕ, _<_}
 use mathlib.Core.Path.{_≡_, refl, sym, ap, _∙_, subst}
-use mathlib.Core.Logic.{_⊎_, inl, inr, _≢_}
+use mathlib.Core.Logic.{_⊎_, inl, inr, ⊎-elim, _≢_}
 use mathlib.Core.Bool.{Bool, true, false}
 use mathlib.Core.List.{List, [], _∷_, _++_, List·Memᴰ, List·Memᴰ·head, List·Memᴰ·tail, List·Memᴰ·cases-cons, Memᴰ·append-right}
 use native.Mathlib.Decide.{ℕ-discrete}
@@ -14,9 +14,9 @@ use Rattle.demands.specs.Types.{Cell, Ask}
 use Rattle.demands.specs.Book.{busy, Book}
 use Rattle.demands.specs.Demand2.{Unfinished, OneOrder}
 
--- An answer shows that its cell, filled at first with y, is written.
+-- An answer shows that its cell, filled at first with y, is written: by another reading, or in so many words.
 abbrev pub Shows : ℕ → Ans → Type 0
-Shows y (got x) = x ≢ y
+Shows y (got x t) = (x ≢ y) ⊎ (t ≡ true)
 Shows y (told t) = t ≡ true
 Shows y done = Unit {0}
 
@@ -25,9 +25,9 @@ pub data Wrote (b : Book) (i x : ℕ) : Type 0 where
   once : (d : Done) → List·Memᴰ d (b .ended) → d .op ≡ write x → d .cell ≡ i → Wrote b i x
   still : (q began taken : ℕ) (c : Cell) → b .doing q ≡ busy began (Ask.Write c x) taken → c .0 ≡ i → Wrote b i x
 
--- An answer knows that the cell is written: its reading is one that was written.
+-- An answer knows that the cell is written: it says so, and its reading is one that was written.
 abbrev pub Knows : Book → ℕ → Ans → Type 0
-Knows b i (got x) = Wrote b i x
+Knows b i (got x t) = Wrote b i x × (t ≡ true)
 Knows b i (told t) = t ≡ true
 Knows b i done = Unit {0}
 
@@ -65,7 +65,8 @@ shown f (x ∷ es) i h e m c s = by (List·Memᴰ·cases-cons m) (shown f es i (
     at (no k) p = absurd (k p)
 
     own : (o : Op) → x .cell ≡ i → x .ans ≡ answer f (deeds es) o (x .cell) → Shows (f i) (x .ans) → writtenBy o (x .cell) i (writtenIn es i) ≡ true
-    own read k r s = known (writtenIn es i) refl (rw k at (subst (Shows (f i)) r s))
+    own read k r s =
+        ⊎-elim (λ (n : valueIn f es i ≢ f i). known (writtenIn es i) refl n) (λ (w : writtenIn es i ≡ true). w) (rw k at (subst (Shows (f i)) r s))
     own asked k r s = rw k at (subst (Shows (f i)) r s)
     own (write v) k r s = at (ℕ-discrete (x .cell) i) k
 
@@ -138,6 +139,8 @@ nothing-vanishes f b O d e md me before same shows = subst (Knows b (e .cell)) (
         (u .doing ∙ ap (λ (v : ℕ). busy (S .entry .began) (Ask.Write (u .cell) v) (u .taken)) value) (sym (u .is-cell) ∙ S .cell)
 
     by : (o : Op) → E .0 .ans ≡ answer f (deeds (B .older)) o (E .0 .cell) → Knows b (e .cell) (E .0 .ans)
-    by read r = subst (Knows b (e .cell)) (sym (r ∙ ap (λ (i : ℕ). got (valueIn f (B .older) i)) (E .2 .cell))) (known (O .sound (S .entry) kept))
+    by read r =
+        subst (Knows b (e .cell)) (sym (r ∙ ap (λ (i : ℕ). got (valueIn f (B .older) i) (writtenIn (B .older) i)) (E .2 .cell)))
+        (known (O .sound (S .entry) kept), is-written)
     by asked r = subst (Knows b (e .cell)) (sym (r ∙ ap (λ (i : ℕ). told (writtenIn (B .older) i)) (E .2 .cell))) is-written
     by (write v) r = subst (Knows b (e .cell)) (sym r) tt

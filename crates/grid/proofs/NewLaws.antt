@@ -234,6 +234,6 @@ module _ (z : Sizes) (l : Lane) (sizes : sizesFit (z .p) (z .m) (z .top) ≡ tru
           let ok = lane-ok (z .p) (z .m) l fits in
           let same = goes-on z q l seen (l .steps + 1) mem ch o (ok .marks) few (l .op) (l .steps) (ok .op) g in
           counts ch (ltb (l .steps) mostSteps && opNew (z .m) o) ∙ rw (same-steps ch l, one-more (l .steps), same)
-      by (Next.Read v) g = counts ch true
+      by (Next.Read v b) g = counts ch true
       by Next.Written g = counts ch true
       by (Next.Asked b) g = counts ch true

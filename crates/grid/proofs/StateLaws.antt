@@ -73,7 +73,7 @@ named-of p m steps (Op.Write i t) h e = named-at p m t h (and-right (ltb (i .0) 
 -- a step that is no refusal answers none
 moved-changes : (n : ℕ) (next : Next) → changes (answerOf n next) ≡ true
 moved-changes n (Next.Going o) = refl
-moved-changes n (Next.Read v) = refl
+moved-changes n (Next.Read v b) = refl
 moved-changes n Next.Written = refl
 moved-changes n (Next.Asked b) = refl
 

@@ -115,7 +115,7 @@ withOp l steps o = record { marks = l .marks; drawn = l .drawn; steps = steps; o
 
 abbrev pub advance : Next → Lane → Lane
 advance (Next.Going o) l = withOp l (l .steps + 1) o
-advance (Next.Read v) l = withOp l 0 Op.Idle
+advance (Next.Read v b) l = withOp l 0 Op.Idle
 advance Next.Written l = withOp l 0 Op.Idle
 advance (Next.Asked b) l = withOp l 0 Op.Idle
 
@@ -134,7 +134,7 @@ verdictOf fits z q l seen mem =
 -- The answer says how many of its own steps a finished operation took.
 abbrev pub answerOf : ℕ → Next → Answer
 answerOf steps (Next.Going o) = Answer.Going
-answerOf steps (Next.Read v) = Answer.Read v (steps + 1)
+answerOf steps (Next.Read v b) = Answer.Read v b (steps + 1)
 answerOf steps Next.Written = Answer.Written (steps + 1)
 answerOf steps (Next.Asked b) = Answer.Asked b (steps + 1)
 

@@ -33,7 +33,7 @@ laneAt q = pick (ltb q mostProcesses) q 0
 abbrev pub changes : Answer → Bool
 changes Answer.Begun = true
 changes Answer.Going = true
-changes (Answer.Read v n) = true
+changes (Answer.Read v b n) = true
 changes (Answer.Written n) = true
 changes (Answer.Asked b n) = true
 changes (Answer.Refused r) = false
@@ -75,7 +75,7 @@ opNew m (Op.Write i t) = stageNew m t
 
 abbrev pub nextFits : ℕ → ℕ → Next → Bool
 nextFits m steps (Next.Going o) = ltb steps mostSteps && opNew m o
-nextFits m steps (Next.Read v) = true
+nextFits m steps (Next.Read v b) = true
 nextFits m steps Next.Written = true
 nextFits m steps (Next.Asked b) = true
 

@@ -121,7 +121,7 @@ fn advance(l: Lane, next: Next) -> Lane
 {
     match next {
         Next::Going(o) => with_op(l, l.steps + 1, o),
-        Next::Read(_) => with_op(l, 0, Op::Idle),
+        Next::Read(_, _) => with_op(l, 0, Op::Idle),
         Next::Written => with_op(l, 0, Op::Idle),
         Next::Asked(_) => with_op(l, 0, Op::Idle),
     }
@@ -133,7 +133,7 @@ fn answer_of(steps: u8, next: Next) -> Answer
 {
     match next {
         Next::Going(_) => Answer::Going,
-        Next::Read(v) => Answer::Read(v, steps + 1),
+        Next::Read(v, b) => Answer::Read(v, b, steps + 1),
         Next::Written => Answer::Written(steps + 1),
         Next::Asked(b) => Answer::Asked(b, steps + 1),
     }
@@ -192,7 +192,7 @@ fn next_fits(m: u32, steps: u8, next: Next) -> bool
 {
     match next {
         Next::Going(o) => { if steps < STEPS { op_new(m, o) } else { false } }
-        Next::Read(_) => true,
+        Next::Read(_, _) => true,
         Next::Written => true,
         Next::Asked(_) => true,
     }
@@ -276,7 +276,7 @@ pub fn changes(a: Answer) -> bool
     match a {
         Answer::Begun => true,
         Answer::Going => true,
-        Answer::Read(_, _) => true,
+        Answer::Read(_, _, _) => true,
         Answer::Written(_) => true,
         Answer::Asked(_, _) => true,
         Answer::Refused(_) => false,

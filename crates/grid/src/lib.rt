@@ -29,7 +29,8 @@ pub enum Ask {
 pub enum Answer {
     Begun,
     Going,
-    Read(u32, u8),
+    // the value, and whether the cell was written when it was read
+    Read(u32, bool, u8),
     Written(u8),
     Asked(bool, u8),
     Refused(Refusal),

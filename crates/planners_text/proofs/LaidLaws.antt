@@ -7,12 +7,13 @@ use mathlib.Core.List.{List, [], _++_}
 use native.Mathlib.Omega.{arith}
 use lib.ListN.{length, length-append}
 use Rattle.lanes.specs.declared.State.{State}
-use Rattle.steps.specs.declared.Found.{Found}
+use Rattle.quiet.specs.declared.Quarter.{Quarter}
+use Rattle.quiet.specs.declared.Quarter.the-variants as Quarter
 use Rattle.steps.specs.Memory.{Memory}
 use Rattle.text.specs.declared.Put.{Put}
 use Rattle.text.specs.Text.{word, decimal, placed, putOf, endOf}
 use Rattle.text.specs.Places.{put-end, splice-none, splice-length, splice-more}
-use Rattle.planners_text.specs.PlannersText.{crlf, lineOf, written, lineAs, foundAt, heldAt, linesBelow}
+use Rattle.planners_text.specs.PlannersText.{crlf, lineOf, lineAs, quarterAt, linesBelow}
 use Rattle.planners_text.specs.Inner.{Laid}
 use Rattle.planners_text.proofs.SizeLaws.{lines-more}
 
@@ -54,17 +55,21 @@ laid-line out oa ob oc od at i v a b c d pa pb pc pd room ea fa eb fb ec fc ed f
     (laid-then oa ob od (word ",") (decimal v ++ crlf) a b d (omega (arith, la .ends)) lb
     (laid-then ob oc od (decimal v) crlf b c d (omega (arith, la .ends, lb .ends)) lc ld))
 
-module _ (out : List ℕ) (at i v : ℕ) (f : Found) (b : Bool) (e : b ≡ written f) where
+module _ (out : List ℕ) (at i : ℕ) (q : Quarter) where
   -- a cell that has no line
-  pub as-none : b ≡ false → Laid out at (lineAs i v f) out at
-  as-none h = simp (sym e ∙ h) (laid-none out at)
+  pub as-outside : q ≡ Quarter.Outside → Laid out at (lineAs i q) out at
+  as-outside e = rw e (laid-none out at)
 
-  module _ (h : b ≡ true) where
-    pub cell-room : at + length (lineAs i v f) ≤ length out → at + length (lineOf i v) ≤ length out
-    cell-room k = simp (sym e ∙ h) at k
+  module _ (v : ℕ) (b : Bool) (e : q ≡ Quarter.Read v b) where
+    pub as-none : b ≡ false → Laid out at (lineAs i q) out at
+    as-none h = rw (e, h) (laid-none out at)
 
-    pub as-written : (o : List ℕ) (a : ℕ) → Laid out at (lineOf i v) o a → Laid out at (lineAs i v f) o a
-    as-written o a l = simp (sym e ∙ h) l
+    module _ (h : b ≡ true) where
+      pub cell-room : at + length (lineAs i q) ≤ length out → at + length (lineOf i v) ≤ length out
+      cell-room k = rw (e, h) at k
+
+      pub as-written : (o : List ℕ) (a : ℕ) → Laid out at (lineOf i v) o a → Laid out at (lineAs i q) o a
+      as-written o a l = rw (e, h) l
 
 -- the cells below i have their lines
 pub record Laying (s : State) (mem : Memory) (start : ℕ) (out₀ out : List ℕ) (at i : ℕ) : Type 0 where
@@ -84,36 +89,36 @@ lines-rise s mem i zero = let e : i + 0 ≡ i = omega arith in rw e (omega arith
 lines-rise s mem i (suc k) =
     let e : i + suc k ≡ i + k + 1 = omega arith in
     rw (e, lines-more s mem (i + k))
-    (omega (arith, lines-rise s mem i k, length-append (linesBelow s mem (i + k)) (lineAs (i + k) (heldAt mem (i + k)) (foundAt s mem (i + k)))))
+    (omega (arith, lines-rise s mem i k, length-append (linesBelow s mem (i + k)) (lineAs (i + k) (quarterAt s mem (i + k)))))
 
 lines-most : (s : State) (mem : Memory) (i n : ℕ) → i ≤ n → length (linesBelow s mem i) ≤ length (linesBelow s mem n)
 lines-most s mem i n h = let e : i + (n - i) ≡ n = omega arith in rw e at (lines-rise s mem i (n - i))
 
 module _ (s : State) (mem : Memory) (start : ℕ) (out₀ out : List ℕ) (at i : ℕ) (g : Laying s mem start out₀ out at i) where
-  module _ (h : i < s .m) (found : Found) (e : found ≡ foundAt s mem i) (v : ℕ) (held : v ≡ heldAt mem i) where
-    line-is : lineAs i v found ≡ lineAs i (heldAt mem i) (foundAt s mem i)
-    line-is = rw (held, e)
+  module _ (h : i < s .m) (q : Quarter) (e : q ≡ quarterAt s mem i) where
+    line-is : lineAs i q ≡ lineAs i (quarterAt s mem i)
+    line-is = rw e
 
-    fits : start + (length (linesBelow s mem i) + length (lineAs i v found)) ≤ length out₀
+    fits : start + (length (linesBelow s mem i) + length (lineAs i q)) ≤ length out₀
     fits =
         let most = lines-most s mem (i + 1) (s .m) (omega arith) in
-        let more : length (linesBelow s mem (i + 1)) ≡ length (linesBelow s mem i) + length (lineAs i v found) =
-        ap length (lines-more s mem i) ∙ rw (← line-is) (length-append (linesBelow s mem i) (lineAs i v found)) in
+        let more : length (linesBelow s mem (i + 1)) ≡ length (linesBelow s mem i) + length (lineAs i q) =
+        ap length (lines-more s mem i) ∙ rw (← line-is) (length-append (linesBelow s mem i) (lineAs i q)) in
         omega (arith, g .room)
 
     -- there is room for one more line
-    pub laying-room : at + length (lineAs i v found) ≤ length out
+    pub laying-room : at + length (lineAs i q) ≤ length out
     laying-room = omega (arith, fits, g .laid .ends, g .sized)
 
-    pub laying-next : (out′ : List ℕ) (at′ : ℕ) → Laid out at (lineAs i v found) out′ at′ → Laying s mem start out₀ out′ at′ (i + 1)
+    pub laying-next : (out′ : List ℕ) (at′ : ℕ) → Laid out at (lineAs i q) out′ at′ → Laying s mem start out₀ out′ at′ (i + 1)
     laying-next out′ at′ l =
         record {
           low = omega arith;
           laid =
               rw (lines-more s mem i, ← line-is)
-              (laid-then out₀ out out′ (linesBelow s mem i) (lineAs i v found) start at at′ (omega (arith, fits)) (g .laid) l);
+              (laid-then out₀ out out′ (linesBelow s mem i) (lineAs i q) start at at′ (omega (arith, fits)) (g .laid) l);
           room = g .room;
-          sized = laid-length out out′ (lineAs i v found) at at′ laying-room l ∙ g .sized;
+          sized = laid-length out out′ (lineAs i q) at at′ laying-room l ∙ g .sized;
         }
 
   pub laying-end : s .m ≤ i → Laid out₀ start (linesBelow s mem (s .m)) out at

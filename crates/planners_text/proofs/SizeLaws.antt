@@ -10,13 +10,14 @@ use lib.ListN.{length, length-append}
 use Rattle.lanes.specs.declared.State.{State}
 use Rattle.lanes.specs.Ranges.{below}
 use Rattle.lanes.specs.Laws.{below-at, below-more}
-use Rattle.steps.specs.declared.Found.{Found}
+use Rattle.quiet.specs.declared.Quarter.{Quarter}
+use Rattle.quiet.specs.declared.Quarter.the-variants as Quarter
 use Rattle.steps.specs.Memory.{Memory}
 use Rattle.text.specs.Text.{word, decimal}
 use Rattle.text.specs.Laws.{decimal-low, decimal-short, decimal-long, step-length}
 use Rattle.planners_text.specs.declared.cells.Measured.{Measured}
 use Rattle.planners_text.specs.declared.cells.Measured.the-variants as Measured
-use Rattle.planners_text.specs.PlannersText.{crlf, header, lineOf, written, lineAs, foundAt, heldAt, linesBelow, textOf, inside, wordsFit}
+use Rattle.planners_text.specs.PlannersText.{crlf, header, lineOf, lineAs, quarterAt, linesBelow, textOf, inside, wordsFit}
 use Rattle.planners_text.specs.Inner.{Long, measuredOf}
 
 -- digits counted so far, all but those of what is left and with its last one
@@ -49,15 +50,15 @@ line-length i v =
       length-append (decimal v) crlf,
     )
 
-pub long-written : (i v x y : ℕ) (f : Found) (b : Bool) → b ≡ written f → b ≡ true → Long 10 (decimal i) x → Long 10 (decimal v) y
-    → Long 23 (lineAs i v f) (x + y + 3)
-long-written i v x y f b e h k l =
-    simp (sym e ∙ h) (record { is = omega (arith, line-length i v, k .is, l .is); few = omega (arith, k .few, l .few) })
+pub long-written : (i : ℕ) (q : Quarter) (v x y : ℕ) (b : Bool) → q ≡ Quarter.Read v b → b ≡ true → Long 10 (decimal i) x → Long 10 (decimal v) y
+    → Long 23 (lineAs i q) (x + y + 3)
+long-written i q v x y b e h k l =
+    rw (e, h) (record { is = omega (arith, line-length i v, k .is, l .is); few = omega (arith, k .few, l .few) })
 
 -- the cells below i were looked at
 pub record Measuring (s : State) (mem : Memory) (total i : ℕ) : Type 0 where
   pub low : i ≤ s .m
-  pub fits : below i (λ (j : ℕ). inside (foundAt s mem j)) ≡ true
+  pub fits : below i (λ (j : ℕ). inside (quarterAt s mem j)) ≡ true
   pub is : total ≡ 14 + length (linesBelow s mem i)
   pub few : total ≤ 14 + 23 * i
 
@@ -66,7 +67,7 @@ unfolding below linesBelow
 measuring-start s mem = record { low = omega arith; fits = refl; is = refl; few = omega arith }
 
 -- one line more
-pub lines-more : (s : State) (mem : Memory) (i : ℕ) → linesBelow s mem (i + 1) ≡ linesBelow s mem i ++ lineAs i (heldAt mem i) (foundAt s mem i)
+pub lines-more : (s : State) (mem : Memory) (i : ℕ) → linesBelow s mem (i + 1) ≡ linesBelow s mem i ++ lineAs i (quarterAt s mem i)
 unfolding linesBelow
 lines-more s mem i = rw (add-one i)
 
@@ -86,23 +87,23 @@ below-fails n i f h x = by (below n f) refl
     by false e = refl
 
 module _ (s : State) (mem : Memory) (total i : ℕ) (g : Measuring s mem total i) where
-  module _ (h : i < s .m) (found : Found) (e : found ≡ foundAt s mem i) (b : Bool) (k : b ≡ inside found) where
+  module _ (h : i < s .m) (q : Quarter) (e : q ≡ quarterAt s mem i) (b : Bool) (k : b ≡ inside q) where
     pub measuring-outside : not b ≡ true → Measured.Outside ≡ measuredOf s mem
     measuring-outside x =
-        let out : inside (foundAt s mem i) ≡ false = ap inside (sym e) ∙ sym k ∙ not-true b x in
-        let none : wordsFit s mem ≡ false = below-fails (s .m) i (λ (j : ℕ). inside (foundAt s mem j)) h out in
+        let out : inside (quarterAt s mem i) ≡ false = ap inside (sym e) ∙ sym k ∙ not-true b x in
+        let none : wordsFit s mem ≡ false = below-fails (s .m) i (λ (j : ℕ). inside (quarterAt s mem j)) h out in
         rw none
 
-    pub measuring-next : not b ≡ false → (v n : ℕ) → v ≡ heldAt mem i → Long 23 (lineAs i v found) n → Measuring s mem (total + n) (i + 1)
-    measuring-next x v n held long =
-        let here : inside (foundAt s mem i) ≡ true = ap inside (sym e) ∙ sym k ∙ not-false b x in
-        let line : lineAs i v found ≡ lineAs i (heldAt mem i) (foundAt s mem i) = rw (held, e) in
-        let size : n ≡ length (lineAs i (heldAt mem i) (foundAt s mem i)) = long .is ∙ ap length line in
-        let more : length (linesBelow s mem (i + 1)) ≡ length (linesBelow s mem i) + length (lineAs i (heldAt mem i) (foundAt s mem i)) =
-        ap length (lines-more s mem i) ∙ length-append (linesBelow s mem i) (lineAs i (heldAt mem i) (foundAt s mem i)) in
+    pub measuring-next : not b ≡ false → (n : ℕ) → Long 23 (lineAs i q) n → Measuring s mem (total + n) (i + 1)
+    measuring-next x n long =
+        let here : inside (quarterAt s mem i) ≡ true = ap inside (sym e) ∙ sym k ∙ not-false b x in
+        let line : lineAs i q ≡ lineAs i (quarterAt s mem i) = rw e in
+        let size : n ≡ length (lineAs i (quarterAt s mem i)) = long .is ∙ ap length line in
+        let more : length (linesBelow s mem (i + 1)) ≡ length (linesBelow s mem i) + length (lineAs i (quarterAt s mem i)) =
+        ap length (lines-more s mem i) ∙ length-append (linesBelow s mem i) (lineAs i (quarterAt s mem i)) in
         record {
           low = omega arith;
-          fits = sym (below-more i (λ (j : ℕ). inside (foundAt s mem j))) ∙ simp (g .fits, here);
+          fits = sym (below-more i (λ (j : ℕ). inside (quarterAt s mem j))) ∙ simp (g .fits, here);
           is = omega (arith, g .is);
           few = omega (arith, g .few, long .few);
         }
@@ -111,7 +112,7 @@ module _ (s : State) (mem : Memory) (total i : ℕ) (g : Measuring s mem total i
   unfolding textOf
   measuring-end h =
       let at : i ≡ s .m = omega (arith, g .low) in
-      let all : wordsFit s mem ≡ true = ap (λ (n : ℕ). below n (λ (j : ℕ). inside (foundAt s mem j))) (sym at) ∙ g .fits in
+      let all : wordsFit s mem ≡ true = ap (λ (n : ℕ). below n (λ (j : ℕ). inside (quarterAt s mem j))) (sym at) ∙ g .fits in
       let long : total ≡ length (textOf s mem) =
       g .is ∙ ap (λ (n : ℕ). 14 + length (linesBelow s mem n)) at ∙ sym (length-append header (linesBelow s mem (s .m))) in
       rw (all, long)

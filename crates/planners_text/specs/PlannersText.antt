@@ -4,17 +4,17 @@ use Prim.Native.Nat.{ℕ, zero, suc}
 use mathlib.Core.Bool.{Bool, true, false, not}
 use mathlib.Core.List.{List, [], _∷_, _++_}
 use lib.Dec.{ltb}
-use lib.ListN.{length, getD}
+use lib.ListN.{length}
 use Rattle.refusals.specs.Orders.{Rule, _gives_, orders, pick}
 use Rattle.refusals.specs.declared.Refusal.the-variants as Refusal
 use Rattle.lanes.specs.declared.State.{State}
 use Rattle.lanes.specs.Ranges.{below}
-use Rattle.steps.specs.declared.Found.{Found}
-use Rattle.steps.specs.declared.Found.the-variants as Found
 use Rattle.steps.specs.Memory.{Memory}
 use Rattle.grid.specs.Calls.{lengthsFit}
 use Rattle.text.specs.Text.{word, decimal, splice}
-use Rattle.quiet.specs.Quiet.{lookedAt, unfit, atWork, scanOf}
+use Rattle.quiet.specs.declared.Quarter.{Quarter}
+use Rattle.quiet.specs.declared.Quarter.the-variants as Quarter
+use Rattle.quiet.specs.Quiet.{readingAt, unfit, atWork, scanOf}
 use Rattle.planners_text.specs.declared.Wrote.{Wrote}
 use Rattle.planners_text.specs.declared.Wrote.the-variants as Wrote
 
@@ -30,40 +30,29 @@ header = word "quarter,load" ++ crlf
 abbrev pub lineOf : ℕ → ℕ → List ℕ
 lineOf i v = decimal i ++ (word "," ++ (decimal v ++ crlf))
 
--- Only a written cell has a line.
-abbrev pub written : Found → Bool
-written Found.Outside = false
-written (Found.On c) = false
-written (Found.NotWritten link) = false
-written Found.Written = true
+-- Only a written cell has a line: the read of the cell says whether it is, and has the reading.
+abbrev pub lineAs : ℕ → Quarter → List ℕ
+lineAs i Quarter.Outside = []
+lineAs i (Quarter.Read v b) = pick b (lineOf i v) []
 
-abbrev pub lineAs : ℕ → ℕ → Found → List ℕ
-lineAs i v f = pick (written f) (lineOf i v) []
-
--- What the check of cell i comes to, and the reading that the memory holds for it.
-abbrev pub foundAt : State → Memory → ℕ → Found
-foundAt s mem i = lookedAt s i (mem .links) (mem .directory) (mem .pool)
-
-abbrev pub heldAt : Memory → ℕ → ℕ
-heldAt mem i = getD (mem .readings) i 0
+abbrev pub quarterAt : State → Memory → ℕ → Quarter
+quarterAt s mem i = readingAt s (record { 0 = i }) mem
 
 -- The lines of the cells below n, in rising order.
 unfoldable pub linesBelow : State → Memory → ℕ → List ℕ
 linesBelow s mem zero = []
-linesBelow s mem (suc n) = linesBelow s mem n ++ lineAs n (heldAt mem n) (foundAt s mem n)
+linesBelow s mem (suc n) = linesBelow s mem n ++ lineAs n (quarterAt s mem n)
 
 unfoldable pub textOf : State → Memory → List ℕ
 textOf s mem = header ++ linesBelow s mem (s .m)
 
--- 9 (word): a word of some cell's check lies outside its memory. (No check is still on after its four steps.)
-abbrev pub inside : Found → Bool
-inside Found.Outside = false
-inside (Found.On c) = false
-inside (Found.NotWritten link) = true
-inside Found.Written = true
+-- 9 (word): a word of some cell's check lies outside its memory.
+abbrev pub inside : Quarter → Bool
+inside Quarter.Outside = false
+inside (Quarter.Read v b) = true
 
 abbrev pub wordsFit : State → Memory → Bool
-wordsFit s mem = below (s .m) (λ (i : ℕ). inside (foundAt s mem i))
+wordsFit s mem = below (s .m) (λ (i : ℕ). inside (quarterAt s mem i))
 
 -- What writing determines: the answer and the buffer. The state and the memories are only read.
 pub record Page : Type 0 where

@@ -11,11 +11,12 @@ use lib.ListN.{length}
 use borrow.Author.Tests.{ltb-true, ltb-false, le-leb, ne-eqb}
 use Rattle.refusals.specs.Orders.{pick}
 use Rattle.lanes.specs.declared.State.{State}
-use Rattle.steps.specs.declared.Found.{Found}
+use Rattle.quiet.specs.declared.Quarter.{Quarter}
+use Rattle.quiet.specs.declared.Quarter.the-variants as Quarter
 use Rattle.steps.specs.Memory.{Memory}
 use Rattle.text.specs.Text.{word, digit, decimal}
 use Rattle.text.specs.Laws.{decimal-low, decimal-step, decimal-long, decimal-read}
-use Rattle.planners_text.specs.PlannersText.{crlf, header, lineOf, written, lineAs, foundAt, heldAt, linesBelow, textOf}
+use Rattle.planners_text.specs.PlannersText.{crlf, header, lineOf, lineAs, quarterAt, linesBelow, textOf}
 use Rattle.planners_text.specs.Rfc4180.{textData, Record, Reader, reader, plain, next, run, finish, recordsIn}
 use Rattle.planners_text.specs.Sheet.{Row, row, all, isDigit, isNumber, rowIn, joined, rowsIn, headed, sheetAs, sheetIn, writtenAs, writtenBelow, heading, writtenCells}
 use Rattle.planners_text.specs.Claims.{ReadsBack}
@@ -101,12 +102,10 @@ run-line i v records =
     ∙ run-append (reader plain [] (decimal i ∷ []) records) (decimal v) crlf
     ∙ ap (λ (r : Reader). run r crlf) (run-plain (decimal v) [] (decimal i ∷ []) records (all-decimal textData digit-is-text v))
 
-run-as : (i v : ℕ) (f : Found) (records : List Record) → run (reader plain [] [] records) (lineAs i v f) ≡ reader plain [] [] (records ++ map fieldsAt (writtenAs i v f))
-run-as i v f records = by (written f)
-  where
-    by : (b : Bool) → run (reader plain [] [] records) (pick b (lineOf i v) []) ≡ reader plain [] [] (records ++ map fieldsAt (pick b (row i v ∷ []) []))
-    by true = run-line i v records
-    by false = rw (append-nil records)
+run-as : (i : ℕ) (q : Quarter) (records : List Record) → run (reader plain [] [] records) (lineAs i q) ≡ reader plain [] [] (records ++ map fieldsAt (writtenAs i q))
+run-as i Quarter.Outside records = rw (append-nil records)
+run-as i (Quarter.Read v true) records = run-line i v records
+run-as i (Quarter.Read v false) records = rw (append-nil records)
 
 map-append : (xs ys : List Row) → map fieldsAt (xs ++ ys) ≡ map fieldsAt xs ++ map fieldsAt ys
 map-append [] ys = refl
@@ -117,12 +116,12 @@ run-lines : (s : State) (mem : Memory) (n : ℕ) (records : List Record)
 unfolding linesBelow writtenBelow
 run-lines s mem zero records = rw (append-nil records)
 run-lines s mem (suc n) records =
-    let here : List Row = writtenAs n (heldAt mem n) (foundAt s mem n) in
-    let line : List ℕ = lineAs n (heldAt mem n) (foundAt s mem n) in
+    let here : List Row = writtenAs n (quarterAt s mem n) in
+    let line : List ℕ = lineAs n (quarterAt s mem n) in
     let below : List Record = map fieldsAt (writtenBelow s mem n) in
     run-append (reader plain [] [] records) (linesBelow s mem n) line
     ∙ ap (λ (r : Reader). run r line) (run-lines s mem n records)
-    ∙ run-as n (heldAt mem n) (foundAt s mem n) (records ++ below)
+    ∙ run-as n (quarterAt s mem n) (records ++ below)
     ∙ ap (λ (l : List Record). reader plain [] [] l)
     (append-assoc records below (map fieldsAt here) ∙ ap (λ (l : List Record). records ++ l) (sym (map-append (writtenBelow s mem n) here)))
 

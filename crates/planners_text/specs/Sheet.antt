@@ -7,11 +7,12 @@ use mathlib.Core.Option.{Option, none, some}
 use lib.Dec.{leb}
 use Rattle.refusals.specs.Orders.{pick}
 use Rattle.lanes.specs.declared.State.{State}
-use Rattle.steps.specs.declared.Found.{Found}
+use Rattle.quiet.specs.declared.Quarter.{Quarter}
+use Rattle.quiet.specs.declared.Quarter.the-variants as Quarter
 use Rattle.steps.specs.Memory.{Memory}
 use Rattle.text.specs.Text.{word}
 use Rattle.text.specs.Laws.{readOnto}
-use Rattle.planners_text.specs.PlannersText.{written, foundAt, heldAt}
+use Rattle.planners_text.specs.PlannersText.{quarterAt}
 use Rattle.planners_text.specs.Rfc4180.{Record, recordsIn}
 
 pub record Row : Type 0 where
@@ -70,12 +71,13 @@ abbrev pub sheetIn : List ℕ → Option Sheet
 sheetIn text = sheetAs (recordsIn text)
 
 -- The written cells below n with their readings, in rising order.
-abbrev pub writtenAs : ℕ → ℕ → Found → List Row
-writtenAs i v f = pick (written f) (row i v ∷ []) []
+abbrev pub writtenAs : ℕ → Quarter → List Row
+writtenAs i Quarter.Outside = []
+writtenAs i (Quarter.Read v b) = pick b (row i v ∷ []) []
 
 unfoldable pub writtenBelow : State → Memory → ℕ → List Row
 writtenBelow s mem zero = []
-writtenBelow s mem (suc n) = writtenBelow s mem n ++ writtenAs n (heldAt mem n) (foundAt s mem n)
+writtenBelow s mem (suc n) = writtenBelow s mem n ++ writtenAs n (quarterAt s mem n)
 
 abbrev pub heading : Record
 heading = word "quarter" ∷ (word "load" ∷ [])

@@ -4,11 +4,11 @@ ghost use Prim.Native.Nat.{_+_, _≤_};
 ghost use lib.ListN.{length};
 ghost use Rattle.steps.specs.Memory.{memory};
 ghost use Rattle.text.specs.Text.{decimal};
-ghost use Rattle.planners_text.specs.PlannersText.{lineOf, written, lineAs, linesBelow, inside};
+ghost use Rattle.planners_text.specs.PlannersText.{lineOf, lineAs, linesBelow, inside};
 ghost use Rattle.planners_text.specs.Inner.{Long, Laid, measuredOf};
 use lanes::State;
 use numbers::Cell;
-use steps::Found;
+use quiet::Quarter;
 
 // The whole text's length, or that a word of some cell's check lies outside.
 pub enum Measured {
@@ -29,35 +29,21 @@ fn digits(n: u32) -> usize
     count
 }
 
-fn inside(found: Found) -> bool
-    ensures { λ r. ⌜ r ≡ inside found ⌝ }
+fn inside(q: Quarter) -> bool
+    ensures { λ r. ⌜ r ≡ inside q ⌝ }
 {
-    match found {
-        Found::Outside => false,
-        Found::On(_) => false,
-        Found::NotWritten(_) => true,
-        Found::Written => true,
+    match q {
+        Quarter::Outside => false,
+        Quarter::Read(_, _) => true,
     }
 }
 
-fn written(found: Found) -> bool
-    ensures { λ r. ⌜ r ≡ written found ⌝ }
+fn length_as(i: u32, q: Quarter) -> usize
+    ensures { λ r. ⌜ Long 23 (lineAs i q) r ⌝ }
 {
-    match found {
-        Found::Outside => false,
-        Found::On(_) => false,
-        Found::NotWritten(_) => false,
-        Found::Written => true,
-    }
-}
-
-fn length_as(i: u32, v: u32, found: Found) -> usize
-    ensures { λ r. ⌜ Long 23 (lineAs i v found) r ⌝ }
-{
-    if written(found) {
-        digits(i) + digits(v) + 3
-    } else {
-        0
+    match q {
+        Quarter::Outside => 0,
+        Quarter::Read(v, b) => { if b { digits(i) + digits(v) + 3 } else { 0 } }
     }
 }
 
@@ -74,12 +60,11 @@ pub fn measure(
     let mut total: usize = 14;
     let mut i: u32 = 0;
     while i < s.m {
-        let found = quiet::looked_at(s, Cell(i), links, directory, pool);
-        if !inside(found) {
+        let q = quiet::reading_at(s, Cell(i), readings, links, directory, pool);
+        if !inside(q) {
             return Measured::Outside;
         }
-        let v = steps::look::word(readings, i as usize);
-        total = total + length_as(i, v, found);
+        total = total + length_as(i, q);
         i = i + 1;
     }
     Measured::Bytes(total)
@@ -95,14 +80,13 @@ fn put_cell(out: &mut [u8], at: usize, i: u32, v: u32) -> usize
     text::end_of(text::put_bytes(out, c, b"\r\n"))
 }
 
-fn put_as(out: &mut [u8], at: usize, i: u32, v: u32, found: Found) -> usize
-    requires { ⌜ at + length (lineAs i v found) ≤ length (now out) ⌝ }
-    ensures { λ r. ⌜ Laid (now (out .entry)) at (lineAs i v found) (now (out .exit)) r ⌝ }
+fn put_as(out: &mut [u8], at: usize, i: u32, q: Quarter) -> usize
+    requires { ⌜ at + length (lineAs i q) ≤ length (now out) ⌝ }
+    ensures { λ r. ⌜ Laid (now (out .entry)) at (lineAs i q) (now (out .exit)) r ⌝ }
 {
-    if written(found) {
-        put_cell(out, at, i, v)
-    } else {
-        at
+    match q {
+        Quarter::Outside => at,
+        Quarter::Read(v, b) => { if b { put_cell(out, at, i, v) } else { at } }
     }
 }
 
@@ -122,9 +106,8 @@ pub fn put_lines(
     let mut at = start;
     let mut i: u32 = 0;
     while i < s.m {
-        let found = quiet::looked_at(s, Cell(i), links, directory, pool);
-        let v = steps::look::word(readings, i as usize);
-        at = put_as(out, at, i, v, found);
+        let q = quiet::reading_at(s, Cell(i), readings, links, directory, pool);
+        at = put_as(out, at, i, q);
         i = i + 1;
     }
     at

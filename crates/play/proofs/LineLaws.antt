@@ -19,14 +19,14 @@ module _ (out : List ℕ) (at : ℕ) where
   pub shown-none : Shown 0 out at [] out at
   shown-none = record { shows = sym (splice-none out at); ends = omega arith; short = omega arith }
 
-  pub shown-line : (p : Put) (line written : List ℕ) (end : ℕ) → at + 25 ≤ length out → length line ≤ 25 → placed p written ≡ putOf out at line → end ≡ endOf p
+  pub shown-line : (p : Put) (line written : List ℕ) (end : ℕ) → at + 27 ≤ length out → length line ≤ 27 → placed p written ≡ putOf out at line → end ≡ endOf p
       → Shown 1 out at line written end
   shown-line p line written end room short e f =
       let put = put-end p out written line at (omega arith) e in
       record { shows = put .1; ends = f ∙ put .0; short = omega arith }
 
   -- a text after another
-  pub shown-more : (a b : ℕ) (t u middle written : List ℕ) (m end : ℕ) → at + 25 * a ≤ length out → Shown a out at t middle m → Shown b middle m u written end
+  pub shown-more : (a b : ℕ) (t u middle written : List ℕ) (m end : ℕ) → at + 27 * a ≤ length out → Shown a out at t middle m → Shown b middle m u written end
       → Shown (a + b) out at (t ++ u) written end
   shown-more a b t u middle written m end room x y =
       let long = length-append t u in
@@ -36,7 +36,7 @@ module _ (out : List ℕ) (at : ℕ) where
         short = omega (arith, x .short, y .short);
       }
 
-  pub shown-sized : (a : ℕ) (t written : List ℕ) (end : ℕ) → at + 25 * a ≤ length out → Shown a out at t written end → length written ≡ length out
+  pub shown-sized : (a : ℕ) (t written : List ℕ) (end : ℕ) → at + 27 * a ≤ length out → Shown a out at t written end → length written ≡ length out
   shown-sized a t written end room x = ap length (x .shows) ∙ splice-length out t at (omega (arith, x .short))
 
 -- the lines of a list, one after the other
@@ -46,7 +46,7 @@ lines-start first words out at = shown-none out at
 
 pub lines-next : (first c i : ℕ) (words out₀ : List ℕ) (at₀ : ℕ) (out : List ℕ) (at : ℕ) (a : Answer) (p : Put) (out′ : List ℕ) (at′ : ℕ) → Room first c words at₀ out₀ → i < c
     → Shown i out₀ at₀ (wordLines first words i) out at → a ≡ answerOf (getD words i 0) → placed p out′ ≡ putOf out at (answerLine (first + i) a)
-    → length (answerLine (first + i) a) ≤ length (decimal (first + i)) + 21 → at′ ≡ endOf p
+    → length (answerLine (first + i) a) ≤ length (decimal (first + i)) + 23 → at′ ≡ endOf p
     → Shown (i + 1) out₀ at₀ (wordLines first words (i + 1)) out′ at′
 unfolding wordLines
 lines-next first c i words out₀ at₀ out at a p out′ at′ r low x e f short g =

@@ -22,7 +22,7 @@ use Rattle.play.proofs.LineLaws.{shown-none, shown-line, shown-more, sh
 pub record Going (bytes : List ℕ) (n : ℕ) (w₀ : World) (out₀ : List ℕ) (at₀ : ℕ) (w : World) (out : List ℕ) (at k : ℕ) : Type 0 where
   pub below : k ≤ n
   pub few : n ≤ 8189
-  pub room : at₀ + 25 * n ≤ length out₀
+  pub room : at₀ + 27 * n ≤ length out₀
   pub is : w ≡ after bytes w₀ k
   pub shown : Shown k out₀ at₀ (linesTo bytes w₀ k) out at
 

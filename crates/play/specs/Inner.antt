@@ -42,7 +42,7 @@ wordLines first words (suc c) = wordLines first words c ++ answerLine (first + c
 pub record Shown (count : ℕ) (out : List ℕ) (at : ℕ) (text written : List ℕ) (end : ℕ) : Type 0 where
   pub shows : written ≡ splice out at text
   pub ends : end ≡ at + length text
-  pub short : length text ≤ 25 * count
+  pub short : length text ≤ 27 * count
 
 -- What a list asks: few records, and a word for each.
 pub record Short (first c : ℕ) (words : List ℕ) : Type 0 where
@@ -54,7 +54,7 @@ pub record Short (first c : ℕ) (words : List ℕ) : Type 0 where
 pub record Room (first c : ℕ) (words : List ℕ) (at : ℕ) (out : List ℕ) : Type 0 where
   pub number : first + c ≤ 10000
   pub told : c ≤ length words
-  pub room : at + 25 * c ≤ length out
+  pub room : at + 27 * c ≤ length out
 
 -- What a schedule asks of its header, of its number of records and of the buffer.
 pub record Ready (h : Header) (n : ℕ) (out : List ℕ) : Type 0 where

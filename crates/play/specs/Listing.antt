@@ -30,6 +30,6 @@ file =
     header ++ read ++ step ++ write9 ++ step ++ step ++ step ++ step ++ step ++ step ++ step ++ read ++ step ++ step ++ step ++ step ++ step ++ step
 
 pub listing : outputOf file
-    ≡ word "processes 1 cells 2\n0 begun\n1 read 7 1\n2 begun\n3 going\n4 going\n5 going\n6 going\n7 going\n8 going\n9 written 7\n10 begun\n11 going\n12 going\n13 going\n14 going\n15 read 9 5\n16 refused 7\n"
+    ≡ word "processes 1 cells 2\n0 begun\n1 read 7 0 1\n2 begun\n3 going\n4 going\n5 going\n6 going\n7 going\n8 going\n9 written 7\n10 begun\n11 going\n12 going\n13 going\n14 going\n15 read 9 1 5\n16 refused 7\n"
 unfolding readOf numberAt recordAt each turnOf after linesTo scheduleText openingOf begunOf verdictOf decimalIn decimal answerLine sizesLine segmentOf offsetOf sizeOf log2 logIn below
 listing = refl

@@ -82,9 +82,9 @@ outputAs bytes (Reading.Schedule h n) = scheduleText bytes h n (filled h)
 abbrev pub outputOf : List ℕ → List ℕ
 outputOf bytes = outputAs bytes (readOf bytes)
 
--- The buffer that an output is given: 8,190 lines of 25 bytes. A shorter one is refused and not touched.
+-- The buffer that an output is given: 8,190 lines of 27 bytes. A shorter one is refused and not touched.
 abbrev pub outputRoom : ℕ
-outputRoom = 204750
+outputRoom = 221130
 
 abbrev pub put : List ℕ → List ℕ → Placed
 put out text = placed (Put.End (length text)) (splice out 0 text)

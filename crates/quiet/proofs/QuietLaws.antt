@@ -19,12 +19,14 @@ use Rattle.lanes.specs.Laws.{and-left, below-more}
 use Rattle.lanes.specs.Scan.{Passed, passed-all}
 use Rattle.steps.specs.declared.Found.{Found}
 use Rattle.steps.specs.declared.Found.the-variants as Found
+use Rattle.steps.specs.declared.Next.{Next}
+use Rattle.steps.specs.declared.Next.the-variants as Next
 use Rattle.steps.specs.Memory.{Memory}
-use Rattle.steps.specs.Steps.{check}
+use Rattle.steps.specs.Steps.{check, notWrittenRead, writtenRead}
 use Rattle.quiet.specs.declared.Quarter.{Quarter}
 use Rattle.quiet.specs.declared.Quarter.the-variants as Quarter
 use Rattle.quiet.specs.declared.Scan.the-variants as Scan
-use Rattle.quiet.specs.Quiet.{marksAt, seenIn, onward, lookedAt, readingAs, readingAt, atRest, scanOf}
+use Rattle.quiet.specs.Quiet.{marksAt, seenIn, onward, lookedAt, quarterOf, readingAs, readingAt, atRest, scanOf}
 
 pub marks-low : (s : State) (q : ℕ) → q < mostProcesses → laneOf s q .marks ≡ marksAt s q
 marks-low s q h = simp (lt-ltb _ _ h)
@@ -53,12 +55,16 @@ unfolding lookedAt
 looked-is s i links directory pool a b c d e f g h =
     h ∙ ap (onward s i links directory pool) (g ∙ ap (onward s i links directory pool) (f ∙ ap (onward s i links directory pool) e))
 
-module _ (s : State) (i : Cell) (readings : List ℕ) (f : Found) where
-  pub filled : (w v : ℕ) → f ≡ Found.NotWritten w → v ≡ fillOf (s .first) (s .step) (i .0) → Quarter.Read v false ≡ readingAs s i readings f
-  filled w v e h = rw e (ap (λ (x : ℕ). Quarter.Read x false) h)
+pub quarter-read : (n : Next) (v : ℕ) (b : Bool) → n ≡ Next.Read v b → Quarter.Read v b ≡ quarterOf n
+quarter-read n v b e = rw e
 
-  pub held : (v : ℕ) → f ≡ Found.Written → v ≡ getD readings (i .0) 0 → Quarter.Read v true ≡ readingAs s i readings f
-  held v e h = rw e (ap (λ (x : ℕ). Quarter.Read x true) h)
+module _ (s : State) (i : Cell) (readings : List ℕ) (f : Found) where
+  pub filled : (w : ℕ) (n : Next) (r : Quarter) → f ≡ Found.NotWritten w → n ≡ notWrittenRead (s .first) (s .step) i → r ≡ quarterOf n
+      → r ≡ readingAs s i readings f
+  filled w n r e h k = rw e (k ∙ ap quarterOf h)
+
+  pub held : (n : Next) (r : Quarter) → f ≡ Found.Written → n ≡ writtenRead readings i → r ≡ quarterOf n → r ≡ readingAs s i readings f
+  held n r e h k = rw e (k ∙ ap quarterOf h)
 
 pub reading-is : (s : State) (i : Cell) (mem : Memory) (f : Found) (r : Quarter) → f ≡ lookedAt s (i .0) (mem .links) (mem .directory) (mem .pool)
     → r ≡ readingAs s i (mem .readings) f → r ≡ readingAt s i mem

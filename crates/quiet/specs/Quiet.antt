@@ -14,8 +14,10 @@ use Rattle.lanes.specs.declared.State.{State}
 use Rattle.lanes.specs.Ranges.{laneOf, idle, below, stateFits}
 use Rattle.steps.specs.declared.Found.{Found}
 use Rattle.steps.specs.declared.Found.the-variants as Found
+use Rattle.steps.specs.declared.Next.{Next}
+use Rattle.steps.specs.declared.Next.the-variants as Next
 use Rattle.steps.specs.Memory.{Memory}
-use Rattle.steps.specs.Steps.{check}
+use Rattle.steps.specs.Steps.{check, notWrittenRead, writtenRead}
 use Rattle.grid.specs.Calls.{namedIn}
 use Rattle.quiet.specs.declared.Quarter.{Quarter}
 use Rattle.quiet.specs.declared.Quarter.the-variants as Quarter
@@ -61,12 +63,19 @@ lookedAt s i links directory pool =
     onward s i links directory pool
     (onward s i links directory pool (onward s i links directory pool (onward s i links directory pool (Found.On Check.Link))))
 
--- A written cell has its reading, another f(i); and whether it is written. No check is still on after four steps.
+-- What a read answers is what is read of its cell.
+abbrev pub quarterOf : Next → Quarter
+quarterOf (Next.Going o) = Quarter.Outside
+quarterOf (Next.Read v b) = Quarter.Read v b
+quarterOf Next.Written = Quarter.Outside
+quarterOf (Next.Asked b) = Quarter.Outside
+
+-- The read of cell i, run to its end: the answers are the read's own. No check is still on after four steps.
 abbrev pub readingAs : State → Cell → List ℕ → Found → Quarter
 readingAs s i readings Found.Outside = Quarter.Outside
 readingAs s i readings (Found.On c) = Quarter.Outside
-readingAs s i readings (Found.NotWritten link) = Quarter.Read (fillOf (s .first) (s .step) (i .0)) false
-readingAs s i readings Found.Written = Quarter.Read (getD readings (i .0) 0) true
+readingAs s i readings (Found.NotWritten link) = quarterOf (notWrittenRead (s .first) (s .step) i)
+readingAs s i readings Found.Written = quarterOf (writtenRead readings i)
 
 abbrev pub readingAt : State → Cell → Memory → Quarter
 readingAt s i mem = readingAs s i (mem .readings) (lookedAt s (i .0) (mem .links) (mem .directory) (mem .pool))

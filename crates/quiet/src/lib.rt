@@ -1,13 +1,14 @@
 // A grid at rest: whether no operation is under way, and what each cell then holds.
 ghost use mathlib.Core.Path.{_≡_};
 ghost use Rattle.steps.specs.Memory.{memory};
-ghost use Rattle.quiet.specs.Quiet.{marksAt, seenIn, onward, lookedAt, readingAs, readingAt, unfit, atWork, scanOf};
+ghost use Rattle.quiet.specs.Quiet.{marksAt, seenIn, onward, lookedAt, quarterOf, readingAs, readingAt, unfit, atWork, scanOf};
 use grid::begins;
 use lanes::Check;
 use lanes::State;
 use numbers::Cell;
 use numbers::PROCESSES;
 use steps::Found;
+use steps::Next;
 
 // What a look at all the lanes shows.
 pub enum Scan {
@@ -112,14 +113,25 @@ pub fn looked_at(s: State, i: Cell, links: &[u64], directory: &[u32], pool: &[u3
     onward(s, i, links, directory, pool, c)
 }
 
+fn quarter_of(n: Next) -> Quarter
+    ensures { λ r. ⌜ r ≡ quarterOf n ⌝ }
+{
+    match n {
+        Next::Going(_) => Quarter::Outside,
+        Next::Read(v, b) => Quarter::Read(v, b),
+        Next::Written => Quarter::Outside,
+        Next::Asked(_) => Quarter::Outside,
+    }
+}
+
 fn reading_as(s: State, i: Cell, readings: &[u32], found: Found) -> Quarter
     ensures { λ r. ⌜ r ≡ readingAs s i (now (readings .entry)) found ⌝ }
 {
     match found {
         Found::Outside => Quarter::Outside,
         Found::On(_) => Quarter::Outside,
-        Found::NotWritten(_) => Quarter::Read(numbers::fill(s.first, s.step, i), false),
-        Found::Written => Quarter::Read(steps::look::word(readings, i.0 as usize), true),
+        Found::NotWritten(_) => quarter_of(steps::not_written_read(s.first, s.step, i)),
+        Found::Written => quarter_of(steps::written_read(readings, i)),
     }
 }
 

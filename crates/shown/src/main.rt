@@ -69,7 +69,7 @@ fn answered(a: Answer) {
     match a {
         Answer::Begun => say(b"begun\n"),
         Answer::Going => say(b"going\n"),
-        Answer::Read(v, _) => named(b"read", v as u64),
+        Answer::Read(v, _, _) => named(b"read", v as u64),
         Answer::Written(n) => named(b"written", n as u64),
         Answer::Asked(_, n) => named(b"asked", n as u64),
         Answer::Refused(r) => named(b"refused", refusals::number(r) as u64),

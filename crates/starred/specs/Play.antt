@@ -68,7 +68,7 @@ pub data Seen : Type 0 where
 abbrev pub hasWritten : Answer → ℕ → Bool
 hasWritten Answer.Begun n = false
 hasWritten Answer.Going n = false
-hasWritten (Answer.Read v k) n = false
+hasWritten (Answer.Read v b k) n = false
 hasWritten (Answer.Written k) n = eqb k n
 hasWritten (Answer.Asked b k) n = false
 hasWritten (Answer.Refused r) n = false
@@ -87,7 +87,7 @@ sees g (x ∷ xs) = isSeen g x && sees g xs
 abbrev pub refusalOf : Answer → ℕ
 refusalOf Answer.Begun = 0
 refusalOf Answer.Going = 0
-refusalOf (Answer.Read v k) = 0
+refusalOf (Answer.Read v b k) = 0
 refusalOf (Answer.Written k) = 0
 refusalOf (Answer.Asked b k) = 0
 refusalOf (Answer.Refused r) = numberOf r

@@ -26,11 +26,11 @@ use Rattle.steps.specs.declared.Got.the-variants as Got
 use Rattle.steps.specs.declared.Found.{Found}
 use Rattle.steps.specs.declared.Found.the-variants as Found
 use Rattle.steps.specs.declared.Change.the-variants as Change
-use Rattle.steps.specs.declared.Next.the-variants as Next
+use Rattle.steps.specs.declared.Next.{Next}
 use Rattle.steps.specs.declared.Turn.{Turn}
 use Rattle.steps.specs.declared.Turn.the-variants as Turn
 use Rattle.steps.specs.Memory.{Memory}
-use Rattle.steps.specs.Steps.{goes, check, startOf, poolWord, tombstoneFirst, stageAt, stageNext, entered, checkedTurn, drawTurn, enterTurn, markTurn, swapTurn, writeTurn, readTurn, askedTurn, opTurn}
+use Rattle.steps.specs.Steps.{notWrittenRead, writtenRead, goes, check, startOf, poolWord, tombstoneFirst, stageAt, stageNext, entered, checkedTurn, drawTurn, enterTurn, markTurn, swapTurn, writeTurn, readTurn, askedTurn, opTurn}
 use Rattle.steps.proofs.LookLaws.{size-is}
 
 module _ (q w r : ℕ) (n : Place) (e : r ≡ packOf q (n .0)) where
@@ -62,6 +62,10 @@ module _ (q w : ℕ) (stored : Bool) (n : Place) where
   entered-first t h e = rw h e
 
 -- an arm of a match on what was found: what is known of the constructor is known of the value
+pub read-unwritten : (first step : ℕ) (i : Cell) (f : Found) (w : ℕ) (n : Next) → f ≡ Found.NotWritten w → n ≡ notWrittenRead first step i
+    → Turn.Turned Change.Nothing n ≡ readTurn first step i f
+read-unwritten first step i f w n e h = rw (e, h)
+
 pub read-arm : (first step : ℕ) (i : Cell) (f g : Found) (r : Turn) → f ≡ g → r ≡ readTurn first step i g → r ≡ readTurn first step i f
 read-arm first step i f g r e h = rw e h
 
@@ -181,9 +185,9 @@ module _ (z : Sizes) (q : ℕ) (l : Lane) (seen : ℕ) (mem : Memory) (r : Turn)
       → r ≡ readTurn (z .first) (z .step) i found → r ≡ opTurn z q l seen mem (l .op)
   op-read i c found e f h = rw (e, ← f) h
 
-  pub op-reading : (i : Cell) (v : ℕ) → l .op ≡ Op.Reading i → v ≡ getD (mem .readings) (i .0) 0
-      → r ≡ Turn.Turned Change.Nothing (Next.Read v) → r ≡ opTurn z q l seen mem (l .op)
-  op-reading i v e f h = rw (e, ← f) h
+  pub op-reading : (i : Cell) (n : Next) → l .op ≡ Op.Reading i → n ≡ writtenRead (mem .readings) i → r ≡ Turn.Turned Change.Nothing n
+      → r ≡ opTurn z q l seen mem (l .op)
+  op-reading i n e f h = rw e (h ∙ ap (Turn.Turned Change.Nothing) f)
 
   pub op-asked : (i : Cell) (c : Check) (found : Found) → l .op ≡ Op.Asked i c
       → found ≡ check (z .p) seen (mem .links) (mem .directory) (mem .pool) (i .0) c

@@ -64,11 +64,18 @@ check p seen links directory pool i (Check.Marks link) = checkMarks seen link
 check p seen links directory pool i (Check.Directory link) = Found.On (Check.Mark (startOf directory (processOf link) (placeOf link)) link)
 check p seen links directory pool i (Check.Mark start link) = checkMark i link (poolWord pool start (placeOf link))
 
--- READ: check; if not written, the answer is f(i), given at that same step; otherwise one more step reads the reading.
+-- READ: check; if not written, the answer is f(i), given at that same step; otherwise one more step reads the reading. The
+-- answer also says which of the two it was.
+abbrev pub notWrittenRead : ℕ → ℕ → Cell → Next
+notWrittenRead first step i = Next.Read (fillOf first step (i .0)) false
+
+abbrev pub writtenRead : List ℕ → Cell → Next
+writtenRead readings i = Next.Read (getD readings (i .0) 0) true
+
 abbrev pub readTurn : ℕ → ℕ → Cell → Found → Turn
 readTurn first step i Found.Outside = Turn.Outside
 readTurn first step i (Found.On c) = goes (Op.Read i c)
-readTurn first step i (Found.NotWritten link) = ends (Next.Read (fillOf first step (i .0)))
+readTurn first step i (Found.NotWritten link) = ends (notWrittenRead first step i)
 readTurn first step i Found.Written = goes (Op.Reading i)
 
 -- ASKED: the check alone.
@@ -149,7 +156,7 @@ abbrev pub opTurn : Sizes → ℕ → Lane → ℕ → Memory → Op → Turn
 opTurn z q l seen mem Op.Idle = Turn.Outside
 opTurn z q l seen mem (Op.Read i c) =
     readTurn (z .first) (z .step) i (check (z .p) seen (mem .links) (mem .directory) (mem .pool) (i .0) c)
-opTurn z q l seen mem (Op.Reading i) = ends (Next.Read (getD (mem .readings) (i .0) 0))
+opTurn z q l seen mem (Op.Reading i) = ends (writtenRead (mem .readings) i)
 opTurn z q l seen mem (Op.Asked i c) = askedTurn i (check (z .p) seen (mem .links) (mem .directory) (mem .pool) (i .0) c)
 opTurn z q l seen mem (Op.Write i t) = writeTurn z q l seen (mem .links) (mem .directory) (mem .pool) i t
 

@@ -3,7 +3,7 @@ ghost use mathlib.Core.Path.{_≡_};
 ghost use mathlib.Core.Bool.{true};
 ghost use Rattle.lanes.specs.Ranges.{laneFits, sizesFit};
 ghost use Rattle.steps.specs.Memory.{memory};
-ghost use Rattle.steps.specs.Steps.{goes, readTurn, askedTurn, turnOf};
+ghost use Rattle.steps.specs.Steps.{notWrittenRead, writtenRead, goes, readTurn, askedTurn, turnOf};
 
 pub mod look;
 pub mod store;
@@ -57,7 +57,8 @@ pub enum Change {
 // The operation's next stage, or its answer.
 pub enum Next {
     Going(Op),
-    Read(u32),
+    // the value, and whether the cell is written
+    Read(u32, bool),
     Written,
     Asked(bool),
 }
@@ -75,16 +76,26 @@ fn goes(o: Op) -> Turn
     Turn::Turned(Change::Nothing, Next::Going(o))
 }
 
+// The two answers of a read: each has its value and its flag from one place.
+pub fn not_written_read(first: u32, step: u32, i: Cell) -> Next
+    ensures { λ r. ⌜ r ≡ notWrittenRead first step i ⌝ }
+{
+    Next::Read(numbers::fill(first, step, i), false)
+}
+
+pub fn written_read(readings: &[u32], i: Cell) -> Next
+    ensures { λ r. ⌜ r ≡ writtenRead (now (readings .entry)) i ⌝ }
+{
+    Next::Read(look::word(readings, i.0 as usize), true)
+}
+
 fn read_turn(first: u32, step: u32, i: Cell, found: Found) -> Turn
     ensures { λ r. ⌜ r ≡ readTurn first step i found ⌝ }
 {
     match found {
         Found::Outside => Turn::Outside,
         Found::On(c) => goes(Op::Read(i, c)),
-        Found::NotWritten(_) => Turn::Turned(
-            Change::Nothing,
-            Next::Read(numbers::fill(first, step, i)),
-        ),
+        Found::NotWritten(_) => Turn::Turned(Change::Nothing, not_written_read(first, step, i)),
         Found::Written => goes(Op::Reading(i)),
     }
 }
@@ -121,10 +132,7 @@ pub fn turn_of(
             let found = look::check(z.p, seen, links, directory, pool, i, c);
             read_turn(z.first, z.step, i, found)
         }
-        Op::Reading(i) => Turn::Turned(
-            Change::Nothing,
-            Next::Read(look::word(readings, i.0 as usize)),
-        ),
+        Op::Reading(i) => Turn::Turned(Change::Nothing, written_read(readings, i)),
         Op::Asked(i, c) => {
             let found = look::check(z.p, seen, links, directory, pool, i, c);
             asked_turn(i, found)

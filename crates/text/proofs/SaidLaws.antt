@@ -11,7 +11,7 @@ use Rattle.refusals.specs.Numbers.{numberOf}
 use Rattle.refusals.specs.declared.Refusal.{Refusal}
 use Rattle.grid.specs.declared.Answer.{Answer}
 use Rattle.grid.specs.declared.Answer.the-variants as Answer
-use Rattle.text.specs.Text.{word, newline, decimal, bit, two, saying, answerLine, sizesLine, fileRefusedLine, refusedLine, Placed, putOf}
+use Rattle.text.specs.Text.{word, newline, decimal, bit, two, three, saying, answerLine, sizesLine, fileRefusedLine, refusedLine, Placed, putOf}
 use Rattle.text.specs.Laws.{decimal-short}
 use Rattle.text.specs.declared.line.Line.{Line}
 use Rattle.text.specs.Inner.{room, soFar, cut, Grown, Made, Said, Answered}
@@ -20,10 +20,17 @@ use Rattle.text.proofs.LineLaws.{then}
 pub two-is : (l x y r : Line) (v n : ℕ) → Grown l x (decimal v) → Grown x y (word " ") → Grown y r (decimal n) → Grown l r (two v n)
 two-is l x y r v n e f g = then l x r (decimal v) (word " " ++ decimal n) e (then x y r (word " ") (decimal n) f g)
 
+pub three-is : (l x y r : Line) (v b n : ℕ) → Grown l x (decimal v) → Grown x y (word " ") → Grown y r (two b n) → Grown l r (three v b n)
+three-is l x y r v b n e f g = then l x r (decimal v) (word " " ++ two b n) e (then x y r (word " ") (two b n) f g)
+
 -- how long the numbers of an answer are
 two-length : (j v n : ℕ) → v < 10 ^ suc j → n < 256 → length (two v n) ≤ suc j + 4
 two-length j v n h k =
     simp length-append (omega (arith, decimal-short j v h, decimal-short 2 n (omega arith), length-append (word " ") (decimal n)))
+
+small : (b : Bool) → bit b < 10
+small true = omega arith
+small false = omega arith
 
 module _ (l r : Line) (a : Answer) where
   pub said-begun : a ≡ Answer.Begun → Grown l r (word "begun") → Said l r a
@@ -32,12 +39,21 @@ module _ (l r : Line) (a : Answer) where
   pub said-going : a ≡ Answer.Going → Grown l r (word "going") → Said l r a
   said-going e g = rw e (record { grown = g; short = omega arith })
 
-  pub said-read : (x : Line) (v n : ℕ) → v < 4294967296 → n < 256 → a ≡ Answer.Read v n → Grown l x (word "read ") → Grown x r (two v n) → Said l r a
-  said-read x v n h k e f g =
+  pub said-read : (x : Line) (b : Bool) (v w n : ℕ) → v < 4294967296 → w ≡ bit b → n < 256 → a ≡ Answer.Read v b n → Grown l x (word "read ") → Grown x r (three v w n)
+      → Said l r a
+  said-read x b v w n h i k e f g =
+      let g′ : Grown x r (three v (bit b) n) = rw i at g in
       rw e
       (record {
-        grown = then l x r (word "read ") (two v n) f g;
-        short = omega (arith, two-length 9 v n (omega arith) k, length-append (word "read ") (two v n));
+        grown = then l x r (word "read ") (three v (bit b) n) f g′;
+        short = omega (
+          arith,
+          decimal-short 9 v (omega arith),
+          two-length 0 (bit b) n (small b) k,
+          length-append (word "read ") (three v (bit b) n),
+          length-append (decimal v) (word " " ++ two (bit b) n),
+          length-append (word " ") (two (bit b) n),
+        );
       })
 
   pub said-written : (x : Line) (n : ℕ) → n < 256 → a ≡ Answer.Written n → Grown l x (word "written ") → Grown x r (decimal n) → Said l r a
@@ -51,16 +67,11 @@ module _ (l r : Line) (a : Answer) where
   pub said-asked : (x : Line) (b : Bool) (v n : ℕ) → v ≡ bit b → n < 256 → a ≡ Answer.Asked b n → Grown l x (word "asked ") → Grown x r (two v n) → Said l r a
   said-asked x b v n i k e f g =
       let g′ : Grown x r (two (bit b) n) = rw i at g in
-      let low : bit b < 10 = small b in
       rw e
       (record {
         grown = then l x r (word "asked ") (two (bit b) n) f g′;
-        short = omega (arith, two-length 0 (bit b) n low k, length-append (word "asked ") (two (bit b) n));
+        short = omega (arith, two-length 0 (bit b) n (small b) k, length-append (word "asked ") (two (bit b) n));
       })
-    where
-      small : (b : Bool) → bit b < 10
-      small true = omega arith
-      small false = omega arith
 
   pub said-refused : (x : Line) (y : Refusal) (n : ℕ) → n ≡ numberOf y → n < 4294967296 → a ≡ Answer.Refused y → Grown l x (word "refused ") → Grown x r (decimal n) → Said l r a
   said-refused x y n i k e f g =
@@ -81,7 +92,7 @@ pub answered : (o x y z r : Line) (k : ℕ) (a : Answer) → k < 184467440737095
     → Said y z a → Grown z r newline → Answered k a r
 unfolding answerLine
 answered o x y z r k a h m d s t n =
-    let short : length (answerLine k a) ≤ length (decimal k) + 21 =
+    let short : length (answerLine k a) ≤ length (decimal k) + 23 =
     simp length-append (omega (arith, t .short, length-append (word " ") (saying a ++ newline), length-append (saying a) newline)) in
     record {
       made =

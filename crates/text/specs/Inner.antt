@@ -31,9 +31,9 @@ pub record Made (r : Line) (bytes : List ℕ) : Type 0 where
 -- An answer was added, and is short.
 pub record Said (l r : Line) (a : Answer) : Type 0 where
   pub grown : Grown l r (saying a)
-  pub short : length (saying a) ≤ 19
+  pub short : length (saying a) ≤ 21
 
 -- A line is an answer's, and is short.
 pub record Answered (k : ℕ) (a : Answer) (r : Line) : Type 0 where
   pub made : Made r (answerLine k a)
-  pub short : length (answerLine k a) ≤ length (decimal k) + 21
+  pub short : length (answerLine k a) ≤ length (decimal k) + 23

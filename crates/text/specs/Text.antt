@@ -43,10 +43,13 @@ bit false = 0
 abbrev pub two : ℕ → ℕ → List ℕ
 two v n = decimal v ++ (word " " ++ decimal n)
 
+abbrev pub three : ℕ → ℕ → ℕ → List ℕ
+three v b n = decimal v ++ (word " " ++ two b n)
+
 abbrev pub saying : Answer → List ℕ
 saying Answer.Begun = word "begun"
 saying Answer.Going = word "going"
-saying (Answer.Read v n) = word "read " ++ two v n
+saying (Answer.Read v b n) = word "read " ++ three v (bit b) n
 saying (Answer.Written n) = word "written " ++ decimal n
 saying (Answer.Asked b n) = word "asked " ++ two (bit b) n
 saying (Answer.Refused r) = word "refused " ++ decimal (numberOf r)

@@ -67,7 +67,7 @@ pub fn put_decimal(out: &mut [u8], at: usize, n: u64) -> Put
 // The line of record k, which was answered a.
 pub fn put_answer(out: &mut [u8], at: usize, k: usize, a: Answer) -> Put
     ensures { λ r. ⌜ placed r (now (out .exit)) ≡ putOf (now (out .entry)) at (answerLine k a) ⌝ }
-    ensures { λ r. ⌜ length (answerLine k a) ≤ length (decimal k) + 21 ⌝ }
+    ensures { λ r. ⌜ length (answerLine k a) ≤ length (decimal k) + 23 ⌝ }
 {
     put_line(out, at, lines::answer(k, a))
 }

@@ -1,6 +1,6 @@
 // The lines of the program's output.
 ghost use mathlib.Core.Path.{_≡_};
-ghost use Rattle.text.specs.Text.{bit, two, answerLine, sizesLine, fileRefusedLine, refusedLine};
+ghost use Rattle.text.specs.Text.{bit, two, three, answerLine, sizesLine, fileRefusedLine, refusedLine};
 ghost use lib.ListN.{length};
 ghost use Rattle.text.specs.Inner.{room, Grown, Made, Said, Answered};
 use super::line;
@@ -13,6 +13,13 @@ fn two(l: Line, v: u64, n: u64) -> Line
     ensures { λ r. ⌜ Grown l r (two v n) ⌝ }
 {
     line::number(line::word(line::number(l, v), b" "), n)
+}
+
+fn three(l: Line, v: u64, b: u64, n: u64) -> Line
+    requires { ⌜ length (l .bytes) ≡ room ⌝ }
+    ensures { λ r. ⌜ Grown l r (three v b n) ⌝ }
+{
+    two(line::word(line::number(l, v), b" "), b, n)
 }
 
 fn bit(b: bool) -> u64
@@ -28,7 +35,7 @@ fn said(l: Line, a: Answer) -> Line
     match a {
         Answer::Begun => line::word(l, b"begun"),
         Answer::Going => line::word(l, b"going"),
-        Answer::Read(v, n) => two(line::word(l, b"read "), v as u64, n as u64),
+        Answer::Read(v, b, n) => three(line::word(l, b"read "), v as u64, bit(b), n as u64),
         Answer::Written(n) => line::number(line::word(l, b"written "), n as u64),
         Answer::Asked(b, n) => two(line::word(l, b"asked "), bit(b), n as u64),
         Answer::Refused(r) => line::number(line::word(l, b"refused "), refusals::number(r) as u64),

@@ -59,11 +59,11 @@ module _ {G : Grid} {oldLink : ℕ → Link} {T : Tally} {w : Watch} (A : Accoun
       same-op (end a) v j g₁ k = absurd (let y : _≡_ {A = ℕ} 0 1 = cc in omega arith)
 
       begun′ : (r : ℕ) (v : Op) (j : ℕ) (g₁ : Stage) → upd (w .lane) q (nextLane o i nx) r ≡ busy v j g₁ → Writing v → (T .cells j ≡ 1) × (T .procs r ≡ 1)
-      begun′ r v j g₁ k wr = by (ℕ-discrete r q)
+      begun′ r v j g₁ k b = by (ℕ-discrete r q)
         where
           by : Dec (r ≡ q) → (T .cells j ≡ 1) × (T .procs r ≡ 1)
-          by (yes h) = rw h (A .begun q v j g (e ∙ same-op nx v j g₁ (sym (upd-same (w .lane) q (nextLane o i nx)) ∙ ap (upd (w .lane) q (nextLane o i nx)) (sym h) ∙ k)) wr)
-          by (no h) = A .begun r v j g₁ (sym (upd-other (w .lane) q (nextLane o i nx) r h) ∙ k) wr
+          by (yes h) = rw h (A .begun q v j g (e ∙ same-op nx v j g₁ (sym (upd-same (w .lane) q (nextLane o i nx)) ∙ ap (upd (w .lane) q (nextLane o i nx)) (sym h) ∙ k)) b)
+          by (no h) = A .begun r v j g₁ (sym (upd-other (w .lane) q (nextLane o i nx) r h) ∙ k) b
 
       fronts′ : (r k : ℕ) → k < front (upd (w .lane) q (nextLane o i nx) r) (M .inForce r) → Owed G oldLink T M r k
       fronts′ r k = by (ℕ-discrete r q)

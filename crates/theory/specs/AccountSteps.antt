@@ -77,7 +77,7 @@ module _ {G : Grid} {oldLink : ℕ → Link} {T : Tally} {W : World} (I : Inv G 
   acc-stage q o i (Stage.checkMarks L) e = acc-keep q e (takeTurn G (W .w .mem) q o i (Stage.checkMarks L) .next) (W .w .mem .marks) (W .w .mem .reading) (pick-front (decLt (L .place) (W .w .mem .inForce (L .proc))) o i _ (go (Stage.checkDirectory L)) (failed G (W .w .mem) q o i L) refl (failed-front G (W .w .mem) q o i L))
   acc-stage q o i (Stage.checkDirectory L) e = acc-keep q e (go (Stage.checkMark L)) (W .w .mem .marks) (W .w .mem .reading) refl
   acc-stage q o i (Stage.checkMark L) e = acc-keep q e (takeTurn G (W .w .mem) q o i (Stage.checkMark L) .next) (W .w .mem .marks) (W .w .mem .reading) (pick-front (ℕ-discrete (W .w .mem .marks (L .proc) (L .place)) (G .code i)) o i _ (passed o) (failed G (W .w .mem) q o i L) (passed-front o i _) (failed-front G (W .w .mem) q o i L))
-  acc-stage q o i Stage.fetch e = acc-keep q e (end (got (W .w .mem .reading i))) (W .w .mem .marks) (W .w .mem .reading) refl
+  acc-stage q o i Stage.fetch e = acc-keep q e (end (got (W .w .mem .reading i) true)) (W .w .mem .marks) (W .w .mem .reading) refl
   acc-stage q o i (Stage.draw s L n) e = acc-step A q e M (go (Stage.enter s L n)) (λ j. inl refl) (λ r ne. refl) (λ r ne. upd-other (W .w .mem .drawn) q (suc (G .shape .seg n)) r ne) (λ k hk. inl hk)
       (inr (record { n = n; small = inr (rw (upd-same (W .w .mem .drawn) q (suc (G .shape .seg n))) (G .shape .low n), counted q e (b .at .0 .wrote) .1); owed = λ k hk. owed-forward (λ j. inl refl) (A .fronts q k (rw e hk)) }))
     where

@@ -13,7 +13,7 @@ pub data Op : Type 0 where
   write : ℕ → Op
 
 pub data Ans : Type 0 where
-  got : ℕ → Ans
+  got : ℕ → Bool → Ans
   told : Bool → Ans
   done : Ans
 
@@ -43,8 +43,8 @@ unfoldable pub written : List Deed → ℕ → Bool
 written [] i = false
 written (d ∷ ds) i = writtenBy (d .op) (d .cell) i (written ds i)
 
--- the array's answer to an operation after the operations of a list
+-- The array's answer to an operation after the operations of a list
 abbrev pub answer : (ℕ → ℕ) → List Deed → Op → ℕ → Ans
-answer f ds read i = got (value f ds i)
+answer f ds read i = got (value f ds i) (written ds i)
 answer f ds asked i = told (written ds i)
 answer f ds (write v) i = done

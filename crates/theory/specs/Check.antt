@@ -59,10 +59,14 @@ module _ {G : Grid} {oldLink : ℕ → Link} {W : World} (I : Inv G oldLink W) (
   unfolding value written deeds
   mild-asked i g e a u k = record { pre = Log.pre-place (Log.pre-keep I) q a e (Steps.busyOk I q e .past) u k; more = λ z m. List·Memᴰ·tail m; less = Steps.less-cons I q e (Log.entry (W .w) q asked i a) refl; same = λ j. refl; vals = λ j. refl }
 
+  -- the array's answer to a read of a cell that no write is before
+  unwritten-answer : (i : ℕ) → OrderLaws.writtenIn (W .log) i ≡ false → got (G .f i) false ≡ answer (G .f) (deeds (W .log)) read i
+  unwritten-answer i t = rw (OrderLaws.value-unwritten (G .f) (W .log) i t, t)
+
   -- a check that read the old link fails, and its operation goes on from there
   fail-keep : (o : Op) (i : ℕ) (g : Stage) (e : W .w .lane q ≡ busy o i g) → After g → settledAt g (W .w .mem .inForce q) ≡ W .w .mem .inForce q
       → (L : Link) → L ≡ oldLink i → Dud G oldLink W q o i → Inv G oldLink (Log.turned W q o i (W .w .mem) (W .used) (failed G (W .w .mem) q o i L) (W .log))
-  fail-keep read i g e a hs L b h = ends read i g e (got (G .f i)) hs (λ v z. absurd z) h
+  fail-keep read i g e a hs L b h = ends read i g e (got (G .f i) false) hs (λ v z. absurd z) h
   fail-keep asked i g e a hs L b h = ends asked i g e (told false) hs (λ v z. absurd z) h
   fail-keep (write v) i g e a hs L b h = goes (write v) i g e g′ a (st .stored) (st .settled ∙ sym hs)
       (plan-ok G oldLink (Log.turned W q (write v) i (W .w .mem) (W .used) (go g′) (W .log)) false q (write v) i L n
@@ -88,11 +92,11 @@ module _ {G : Grid} {oldLink : ℕ → Link} {W : World} (I : Inv G oldLink W) (
       l : Link
       l = W .w .mem .link i
 
-      by : CellOk G oldLink W i → (d : Dec (l .proc < G .p)) → Kept G oldLink W q read i (turnTo keep (pick d (go (Stage.checkMarks l)) (end (got (G .f i))))) (W .used)
+      by : CellOk G oldLink W i → (d : Dec (l .proc < G .p)) → Kept G oldLink W q read i (turnTo keep (pick d (go (Stage.checkMarks l)) (end (got (G .f i) false)))) (W .used)
       by (new t y v p₀ p₁ p₂) (yes k) = (W .log, goes read i Stage.checkLink e (Stage.checkMarks l) tt tt refl (sure t refl (b .at), k))
       by (new t y v p₀ p₁ p₂) (no k) = absurd (k p₀)
-      by (old t h s) (yes k) = (Log.entry (W .w) q read i (got (G .f i)) ∷ W .log, Steps.go-quiet I q e (W .w .mem .drawn) _ (mild-read i Stage.checkLink e (got (G .f i)) (b .at) (ap got (sym (OrderLaws.value-unwritten (G .f) (W .log) i t)))) (Stage.checkMarks l) tt tt refl (dud h (W .w .now, List·Memᴰ·head refl), k))
-      by (old t h s) (no k) = (Log.entry (W .w) q read i (got (G .f i)) ∷ W .log, Steps.end-quiet I q e (W .w .mem .drawn) _ (mild-read i Stage.checkLink e (got (G .f i)) (b .at) (ap got (sym (OrderLaws.value-unwritten (G .f) (W .log) i t)))) (got (G .f i)) (W .w .now) refl (λ v z. absurd z) (List·Memᴰ·head refl))
+      by (old t h s) (yes k) = (Log.entry (W .w) q read i (got (G .f i) false) ∷ W .log, Steps.go-quiet I q e (W .w .mem .drawn) _ (mild-read i Stage.checkLink e (got (G .f i) false) (b .at) (unwritten-answer i t)) (Stage.checkMarks l) tt tt refl (dud h (W .w .now, List·Memᴰ·head refl), k))
+      by (old t h s) (no k) = (Log.entry (W .w) q read i (got (G .f i) false) ∷ W .log, Steps.end-quiet I q e (W .w .mem .drawn) _ (mild-read i Stage.checkLink e (got (G .f i) false) (b .at) (unwritten-answer i t)) (got (G .f i) false) (W .w .now) refl (λ v z. absurd z) (List·Memᴰ·head refl))
   check-link asked i e = by (I .cells i (b .cell)) (decLt (W .w .mem .link i .proc) (G .p))
     where
       b : BusyOk G oldLink W q asked i Stage.checkLink
@@ -163,12 +167,15 @@ module _ {G : Grid} {oldLink : ℕ → Link} {W : World} (I : Inv G oldLink W) (
   -- a read of a written cell takes its place as it reads
   pub fetches : (o : Op) (i : ℕ) (e : W .w .lane q ≡ busy o i Stage.fetch) → Kept G oldLink W q o i (takeTurn G (W .w .mem) q o i Stage.fetch) (W .used)
   unfolding Kept
-  fetches read i e = (Log.entry (W .w) q read i a ∷ W .log, Steps.end-quiet I q e (W .w .mem .drawn) _ (mild-read i Stage.fetch e a (b .at .2) (ap got (sym (swapped-cell I i (b .cell) (b .at .1) .holds)))) a (W .w .now) refl (λ v z. absurd z) (List·Memᴰ·head refl))
+  fetches read i e = (Log.entry (W .w) q read i a ∷ W .log, Steps.end-quiet I q e (W .w .mem .drawn) _ (mild-read i Stage.fetch e a (b .at .2) (rw (C .holds, C .is-written))) a (W .w .now) refl (λ v z. absurd z) (List·Memᴰ·head refl))
     where
       b : BusyOk G oldLink W q read i Stage.fetch
       b = Steps.busyOk I q e
 
       a : Ans
-      a = got (W .w .mem .reading i)
+      a = got (W .w .mem .reading i) true
+
+      C : Certificate I i (b .cell) (b .at .1)
+      C = swapped-cell I i (b .cell) (b .at .1)
   fetches asked i e = absurd (let h = Steps.busyOk I q e .at .0 in let y : _≡_ {A = ℕ} 0 1 = cc in omega arith)
   fetches (write v) i e = absurd (let h = Steps.busyOk I q e .at .0 in let y : _≡_ {A = ℕ} 0 1 = cc in omega arith)

@@ -42,7 +42,7 @@ module _ (G : Grid) (oldLink : ℕ → Link) (W : World) where
   Sure q (write v) i = Wrote q (write v) i
 
   abbrev pub Dud : ℕ → Op → ℕ → Type 0
-  Dud q read i = Placed G oldLink W q read i (got (G .f i))
+  Dud q read i = Placed G oldLink W q read i (got (G .f i) false)
   Dud q asked i = Placed G oldLink W q asked i (told false)
   Dud q (write v) i = Wrote q (write v) i
 

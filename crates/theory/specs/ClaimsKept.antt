@@ -48,7 +48,7 @@ module _ {G : Grid} {oldLink : ℕ → Link} {q : ℕ} {W W′ : World} (F : Fra
 
   pub dud-frame : (o : Op) (i : ℕ) (g : Stage) → After g → W .w .lane r ≡ busy o i g → Dud G oldLink W r o i → Dud G oldLink W′ r o i
   unfolding NotStored
-  dud-frame read i g a e h = placed-frame read i g (got (G .f i)) e h
+  dud-frame read i g a e h = placed-frame read i g (got (G .f i) false) e h
   dud-frame asked i g a e h = placed-frame asked i g (told false) e h
   dud-frame (write v) i g a e h = F .wrote r (write v) i g ne e a h
 

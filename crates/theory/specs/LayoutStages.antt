@@ -74,7 +74,7 @@ module _ {G : Grid} {oldLink : ℕ → Link} {W : World} (I : Inv G oldLink W) {
 
       h : NxLay nx
       h = nx-pick (ℕ-discrete (W .w .mem .marks (L .proc) (L .place)) (G .code i)) (passed o) (failed G (W .w .mem) q o i L) (pass-lay o) (fail-lay (Stage.checkMark L) e refl o L)
-  lay-stage Stage.fetch e log = (own, LayoutSteps.lay-keep I Y q o i Stage.fetch e (end (got (W .w .mem .reading i))) (W .w .mem .reading) (W .w .mem .link) (W .w .mem .inForce) log refl tt)
+  lay-stage Stage.fetch e log = (own, LayoutSteps.lay-keep I Y q o i Stage.fetch e (end (got (W .w .mem .reading i) true)) (W .w .mem .reading) (W .w .mem .link) (W .w .mem .inForce) log refl tt)
   lay-stage (Stage.draw s L n) e log = (LayoutSteps.given I Y q o i own n, LayoutSteps.lay-draw I Y q o i s L n e log)
   lay-stage (Stage.enter s L n) e log = (own, LayoutSteps.lay-enter I Y q o i s L n e (usePlace s q L n) (u .0) log (u .1))
     where

@@ -130,7 +130,7 @@ module _ (G : Grid) where
 
   -- how an operation goes on once its check has failed
   abbrev pub failed : Mem → ℕ → Op → ℕ → Link → Next
-  failed M q read i L = end (got (G .f i))
+  failed M q read i L = end (got (G .f i) false)
   failed M q asked i L = end (told false)
   failed M q (write v) i L = go (plan false M q L (M .inForce q))
 
@@ -141,7 +141,7 @@ module _ (G : Grid) where
   takeTurn M q o i (checkMarks L) = turnTo keep (pick (decLt (L .place) (M .inForce (L .proc))) (go (checkDirectory L)) (failed M q o i L))
   takeTurn M q o i (checkDirectory L) = turnTo keep (go (checkMark L))
   takeTurn M q o i (checkMark L) = turnTo keep (pick (ℕ-discrete (M .marks (L .proc) (L .place)) (G .code i)) (passed o) (failed M q o i L))
-  takeTurn M q o i fetch = turnTo keep (end (got (M .reading i)))
+  takeTurn M q o i fetch = turnTo keep (end (got (M .reading i) true))
   takeTurn M q o i (draw s L n) = turnTo (setDrawn (suc (G .shape .seg n))) (go (enter s L n))
   takeTurn M q o i (enter s L n) = turnTo keep (go (usePlace s q L n))
   takeTurn M q o i (tombstone L n) = turnTo (setMark n (G .grave)) (go (plan true M q L (suc n)))

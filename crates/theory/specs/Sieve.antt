@@ -26,7 +26,7 @@ module _ {G : Grid} {oldLink : ℕ → Link} {W : World} (I : Inv G oldLink W) w
     kept : (z : Entry) → List·Memᴰ z es → Fin z → List·Memᴰ z es′
 
   answer-same : (es es′ : List Entry) → Sieved es es′ → (o : Op) (c : ℕ) → answer (G .f) (deeds es) o c ≡ answer (G .f) (deeds es′) o c
-  answer-same es es′ S read c = ap got (sym (S .vals c))
+  answer-same es es′ S read c = rw (S .vals c, S .same c)
   answer-same es es′ S asked c = ap told (sym (S .same c))
   answer-same es es′ S (write v) c = refl
 

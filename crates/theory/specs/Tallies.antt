@@ -71,14 +71,14 @@ module _ {G : Grid} {oldLink : ℕ → Link} where
       l = busy o i (firstStage o)
 
       new : (v : Op) (j : ℕ) (g : Stage) → busy o i (firstStage o) ≡ busy v j g → Writing v → (T′ .cells j ≡ 1) × (T′ .procs q ≡ 1)
-      new v j g k wr = let ho : o ≡ v = cc in let hi : i ≡ j = cc in subst (λ (y : ℕ). (T′ .cells y ≡ 1) × (T′ .procs q ≡ 1)) hi (tallied-new T q o i (subst (λ (y : Op). Writing y) (sym ho) wr))
+      new v j g k b = let ho : o ≡ v = cc in let hi : i ≡ j = cc in subst (λ (y : ℕ). (T′ .cells y ≡ 1) × (T′ .procs q ≡ 1)) hi (tallied-new T q o i (subst (λ (y : Op). Writing y) (sym ho) b))
 
       begun′ : (r : ℕ) (v : Op) (j : ℕ) (g : Stage) → upd (w .lane) q l r ≡ busy v j g → Writing v → (T′ .cells j ≡ 1) × (T′ .procs r ≡ 1)
-      begun′ r v j g k wr = by (ℕ-discrete r q)
+      begun′ r v j g k b = by (ℕ-discrete r q)
         where
           by : Dec (r ≡ q) → (T′ .cells j ≡ 1) × (T′ .procs r ≡ 1)
-          by (yes h) = rw h (new v j g (sym (upd-same (w .lane) q l) ∙ ap (upd (w .lane) q l) (sym h) ∙ k) wr)
-          by (no h) = let y = A .begun r v j g (sym (upd-other (w .lane) q l r h) ∙ k) wr in (C .cells j (y .0), C .procs r (y .1))
+          by (yes h) = rw h (new v j g (sym (upd-same (w .lane) q l) ∙ ap (upd (w .lane) q l) (sym h) ∙ k) b)
+          by (no h) = let y = A .begun r v j g (sym (upd-other (w .lane) q l r h) ∙ k) b in (C .cells j (y .0), C .procs r (y .1))
 
       fronts′ : (r k : ℕ) → k < front (upd (w .lane) q l r) (w .mem .inForce r) → Owed G oldLink T′ (w .mem) r k
       fronts′ r k = by (ℕ-discrete r q)

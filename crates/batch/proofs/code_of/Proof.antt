@@ -21,8 +21,8 @@ code-requires-2 c κs = search needs
 enum-known-a : tie.Need-enum-known-a
 enum-known-a c = search needs
 
-cast-code : tie.Need-cast-code
-cast-code c = search needs
+count-of-requires : tie.Need-count-of-requires
+count-of-requires c κs = search needs
 
 code-requires-3 : tie.Need-code-requires-3
 code-requires-3 c κs = search needs
@@ -30,8 +30,8 @@ code-requires-3 c κs = search needs
 enum-known-a-2 : tie.Need-enum-known-a-2
 enum-known-a-2 c = search needs
 
-cast-code-2 : tie.Need-cast-code-2
-cast-code-2 c = search needs
+cast-code : tie.Need-cast-code
+cast-code c = search needs
 
 code-requires-4 : tie.Need-code-requires-4
 code-requires-4 c κs = search needs
@@ -39,8 +39,8 @@ code-requires-4 c κs = search needs
 enum-known-a-3 : tie.Need-enum-known-a-3
 enum-known-a-3 c = search needs
 
-cast-code-3 : tie.Need-cast-code-3
-cast-code-3 c = search needs
+cast-code-2 : tie.Need-cast-code-2
+cast-code-2 c = search needs
 
 bit-requires : tie.Need-bit-requires
 bit-requires c κs = search needs
@@ -64,7 +64,7 @@ returns-2 : tie.Need-returns-2
 returns-2 c = code-going _ _ (c .before .enum-told2 .given .1) (c .code2 .ensures)
 
 returns-3 : tie.Need-returns-3
-returns-3 c = code-read _ _ _ _ (omega arith) (c .before .before .a .given .1) (c .code3 .ensures)
+returns-3 c = code-read _ _ _ _ _ _ (omega arith) (c .before .before .before .a .given .1) (c .before .count-of .ensures .0) (c .code3 .ensures)
 
 returns-4 : tie.Need-returns-4
 returns-4 c = code-written _ _ _ (omega arith) (c .before .before .a2 .given .1) (c .code4 .ensures)
@@ -84,13 +84,13 @@ code-of-spec =
     enum-told-2
     code-requires-2
     enum-known-a
-    cast-code
+    count-of-requires
     code-requires-3
     enum-known-a-2
-    cast-code-2
+    cast-code
     code-requires-4
     enum-known-a-3
-    cast-code-3
+    cast-code-2
     bit-requires
     code-requires-5
     enum-known-a-4

@@ -14,17 +14,20 @@ enum-told-2 c = search needs
 enum-told-3 : tie.Need-enum-told-3
 enum-told-3 c = search needs
 
-fill-requires : tie.Need-fill-requires
-fill-requires c κs = search needs
+not-written-read-requires : tie.Need-not-written-read-requires
+not-written-read-requires c κs = search needs
+
+quarter-of-requires : tie.Need-quarter-of-requires
+quarter-of-requires c κs = search needs
 
 enum-told-4 : tie.Need-enum-told-4
 enum-told-4 c = search needs
 
-cast-word : tie.Need-cast-word
-cast-word c = search needs
+written-read-requires : tie.Need-written-read-requires
+written-read-requires c κs = search needs
 
-word-requires : tie.Need-word-requires
-word-requires c κs = search needs
+quarter-of-requires-2 : tie.Need-quarter-of-requires-2
+quarter-of-requires-2 c κs = search needs
 
 returns : tie.Need-returns
 returns c = search needs
@@ -45,10 +48,11 @@ reading-as-spec =
     enum-told
     enum-told-2
     enum-told-3
-    fill-requires
+    not-written-read-requires
+    quarter-of-requires
     enum-told-4
-    cast-word
-    word-requires
+    written-read-requires
+    quarter-of-requires-2
     returns
     returns-2
     returns-3

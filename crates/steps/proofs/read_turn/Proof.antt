@@ -1,6 +1,6 @@
 -- `steps::read_turn` meets its contract.
 -- Assumes nothing.
-use Rattle.steps.proofs.WriteLaws.{read-arm}
+use Rattle.steps.proofs.WriteLaws.{read-arm, read-unwritten}
 use borrow.Author.Needs.{needs}
 use Rattle.steps.proofs.read_turn.Statement.{statement}
 use Rattle.steps.proofs.read_turn.Tie as tie
@@ -17,8 +17,8 @@ goes-requires c κs = search needs
 enum-told-2 : tie.Need-enum-told-2
 enum-told-2 c = search needs
 
-fill-requires : tie.Need-fill-requires
-fill-requires c κs = search needs
+not-written-read-requires : tie.Need-not-written-read-requires
+not-written-read-requires c κs = search needs
 
 enum-told-3 : tie.Need-enum-told-3
 enum-told-3 c = search needs
@@ -33,7 +33,7 @@ returns-2 : tie.Need-returns-2
 returns-2 c = search (read-arm)
 
 returns-3 : tie.Need-returns-3
-returns-3 c = search (read-arm)
+returns-3 c = search (read-unwritten)
 
 returns-4 : tie.Need-returns-4
 returns-4 c = search (read-arm)
@@ -46,7 +46,7 @@ read-turn-spec =
     enum-known-found
     goes-requires
     enum-told-2
-    fill-requires
+    not-written-read-requires
     enum-told-3
     goes-requires-2
     returns

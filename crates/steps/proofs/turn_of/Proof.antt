@@ -20,11 +20,8 @@ read-turn-requires c κs = search needs
 enum-known-o-2 : tie.Need-enum-known-o-2
 enum-known-o-2 c = search needs
 
-cast-word : tie.Need-cast-word
-cast-word c = search needs
-
-word-requires : tie.Need-word-requires
-word-requires c κs = search needs
+written-read-requires : tie.Need-written-read-requires
+written-read-requires c κs = search needs
 
 enum-known-o-3 : tie.Need-enum-known-o-3
 enum-known-o-3 c = search needs
@@ -65,8 +62,7 @@ turn-of-spec =
     check-requires
     read-turn-requires
     enum-known-o-2
-    cast-word
-    word-requires
+    written-read-requires
     enum-known-o-3
     check-requires-2
     asked-turn-requires

@@ -11,20 +11,20 @@ enum-told c = search needs
 enum-known-next : tie.Need-enum-known-next
 enum-known-next c = search needs
 
-add-t6 : tie.Need-add-t6
-add-t6 c = search needs
+add-t7 : tie.Need-add-t7
+add-t7 c = search needs
 
 enum-told-2 : tie.Need-enum-told-2
 enum-told-2 c = search needs
 
-add-t7 : tie.Need-add-t7
-add-t7 c = search needs
+add-t8 : tie.Need-add-t8
+add-t8 c = search needs
 
 enum-known-next-2 : tie.Need-enum-known-next-2
 enum-known-next-2 c = search needs
 
-add-t8 : tie.Need-add-t8
-add-t8 c = search needs
+add-t9 : tie.Need-add-t9
+add-t9 c = search needs
 
 returns : tie.Need-returns
 returns c = search needs
@@ -44,11 +44,11 @@ answer-of-spec =
     (tie.spec
     enum-told
     enum-known-next
-    add-t6
-    enum-told-2
     add-t7
-    enum-known-next-2
+    enum-told-2
     add-t8
+    enum-known-next-2
+    add-t9
     returns
     returns-2
     returns-3

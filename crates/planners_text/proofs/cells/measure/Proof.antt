@@ -17,20 +17,14 @@ abbrev μ-loop : tie.MeasureT-loop
 loop-holds : tie.Need-loop-holds Inv-loop μ-loop
 loop-holds c = search (measuring-start)
 
-looked-at-requires : tie.Need-looked-at-requires Inv-loop μ-loop
-looked-at-requires c κs = search needs
+reading-at-requires : tie.Need-reading-at-requires Inv-loop μ-loop
+reading-at-requires c κs = search needs
 
 inside-requires : tie.Need-inside-requires Inv-loop μ-loop
 inside-requires c κs = search needs
 
 returns : tie.Need-returns Inv-loop μ-loop
 returns c = search (measuring-outside)
-
-cast-word : tie.Need-cast-word Inv-loop μ-loop
-cast-word c = search needs
-
-word-requires : tie.Need-word-requires Inv-loop μ-loop
-word-requires c κs = search needs
 
 length-as-requires : tie.Need-length-as-requires Inv-loop μ-loop
 length-as-requires c κs = search needs
@@ -57,11 +51,9 @@ measure-spec =
     Inv-loop
     μ-loop
     loop-holds
-    looked-at-requires
+    reading-at-requires
     inside-requires
     returns
-    cast-word
-    word-requires
     length-as-requires
     add-total
     add-i

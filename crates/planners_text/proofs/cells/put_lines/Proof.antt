@@ -17,14 +17,8 @@ abbrev μ-loop : tie.MeasureT-loop
 loop-holds : tie.Need-loop-holds Inv-loop μ-loop
 loop-holds c = search (laying-start)
 
-looked-at-requires : tie.Need-looked-at-requires Inv-loop μ-loop
-looked-at-requires c κs = search needs
-
-cast-word : tie.Need-cast-word Inv-loop μ-loop
-cast-word c = search needs
-
-word-requires : tie.Need-word-requires Inv-loop μ-loop
-word-requires c κs = search needs
+reading-at-requires : tie.Need-reading-at-requires Inv-loop μ-loop
+reading-at-requires c κs = search needs
 
 put-as-requires : tie.Need-put-as-requires Inv-loop μ-loop
 put-as-requires c κs = search (laying-room)
@@ -51,9 +45,7 @@ put-lines-spec =
     Inv-loop
     μ-loop
     loop-holds
-    looked-at-requires
-    cast-word
-    word-requires
+    reading-at-requires
     put-as-requires
     add-i
     loop-less

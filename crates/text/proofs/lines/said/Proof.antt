@@ -32,14 +32,17 @@ slice-aggregate-word-3 c = search needs
 word-requires-3 : tie.Need-word-requires-3
 word-requires-3 c κs = search needs
 
-cast-two : tie.Need-cast-two
-cast-two c = search needs
+cast-three : tie.Need-cast-three
+cast-three c = search needs
 
-cast-two-2 : tie.Need-cast-two-2
-cast-two-2 c = search needs
+bit-requires : tie.Need-bit-requires
+bit-requires c κs = search needs
 
-two-requires : tie.Need-two-requires
-two-requires c κs = search needs
+cast-three-2 : tie.Need-cast-three-2
+cast-three-2 c = search needs
+
+three-requires : tie.Need-three-requires
+three-requires c κs = search needs
 
 enum-known-a-2 : tie.Need-enum-known-a-2
 enum-known-a-2 c = search needs
@@ -65,14 +68,14 @@ slice-aggregate-word-5 c = search needs
 word-requires-5 : tie.Need-word-requires-5
 word-requires-5 c κs = search needs
 
-bit-requires : tie.Need-bit-requires
-bit-requires c κs = search needs
+bit-requires-2 : tie.Need-bit-requires-2
+bit-requires-2 c κs = search needs
 
-cast-two-3 : tie.Need-cast-two-3
-cast-two-3 c = search needs
+cast-two : tie.Need-cast-two
+cast-two c = search needs
 
-two-requires-2 : tie.Need-two-requires-2
-two-requires-2 c κs = search needs
+two-requires : tie.Need-two-requires
+two-requires c κs = search needs
 
 enum-known-a-4 : tie.Need-enum-known-a-4
 enum-known-a-4 c = search needs
@@ -123,9 +126,10 @@ said-spec =
     enum-known-a
     slice-aggregate-word-3
     word-requires-3
-    cast-two
-    cast-two-2
-    two-requires
+    cast-three
+    bit-requires
+    cast-three-2
+    three-requires
     enum-known-a-2
     slice-aggregate-word-4
     word-requires-4
@@ -134,9 +138,9 @@ said-spec =
     enum-known-a-3
     slice-aggregate-word-5
     word-requires-5
-    bit-requires
-    cast-two-3
-    two-requires-2
+    bit-requires-2
+    cast-two
+    two-requires
     enum-known-a-4
     slice-aggregate-word-6
     word-requires-6
