@@ -4,13 +4,17 @@ import sys
 from collections import Counter
 
 import files
+import grid
 import program
 import qhs
-from state import segment
+from state import filled, segment
 
 # All that 01 lets happen in a file. Refusals 3, 8, 9 and 10 cannot.
 EXPECTED = (
-    [f"read {n}" for n in (1, 2, 4, 5)] + [f"asked {n}" for n in (1, 2, 4)]
+    [f"read, not written, {n}" for n in (1, 2, 4)] + ["read, written, 5"]
+    + [f"read: {what}" for what in ("a written 0", "a written f(i)", "f(i) = 0, not written",
+                                    "not written, and written at its end")]
+    + [f"asked {n}" for n in (1, 2, 4)]
     + ["asked: not written", "asked: written"] + [f"written {n}" for n in range(5, 12)]
     + [f"refused {n}" for n in (4, 5, 6, 7)]
     + [f"file refused {n}" for n in (1, 2, 11, 12, 13, 14, 15, 16)]
@@ -39,8 +43,10 @@ def look(data, seen):
         op = state.lanes[q].op if q < state.p else None
         answer, state = program.play(state, mem, record)
         name, *numbers = answer
-        if name in ("read", "asked", "written"):
+        if name in ("asked", "written"):
             seen[f"{name} {numbers[-1]}"] += 1
+        if name == "read":
+            look_read(op.cell, numbers, state, mem, seen)
         if name == "asked":
             seen["asked: written" if numbers[0] else "asked: not written"] += 1
         if name == "refused":
@@ -48,6 +54,16 @@ def look(data, seen):
         if record.kind == "step" and op is not None:
             seen[f"{op.kind} at {op.stage}"] += 1
             note(op, q, answer, state, tombed, drew, taken_back, seen)
+
+
+def look_read(cell, numbers, state, mem, seen):
+    """What a read's answer shows: zero load or no load, and the point it was decided at."""
+    value, written, count = numbers
+    seen[f"read, {'written' if written else 'not written'}, {count}"] += 1
+    seen["read: a written 0"] += written and value == 0
+    seen["read: a written f(i)"] += written and value == filled(state, cell)
+    seen["read: f(i) = 0, not written"] += not written and value == 0
+    seen["read: not written, and written at its end"] += not written and grid.read_whole(state, cell, mem)[1]
 
 
 def note(op, q, answer, state, tombed, drew, taken_back, seen):
@@ -77,8 +93,10 @@ def main():
     for name in EXPECTED:
         print(f"{seen[name]:9} {name}")
     missing = [name for name in EXPECTED if not seen[name]]
-    print(f"{count} files, {len(EXPECTED)} kinds of event, {len(missing)} missing {missing or ''}")
-    sys.exit(bool(missing))
+    # A read ends by 1, 2 or 4 steps if not written, by 5 if written, and never otherwise.
+    strange = [name for name in seen if name.startswith("read,") and name not in EXPECTED]
+    print(f"{count} files, {len(EXPECTED)} kinds of event, {len(missing)} missing {missing or ''}{strange or ''}")
+    sys.exit(bool(missing or strange))
 
 
 if __name__ == "__main__":

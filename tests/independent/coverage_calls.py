@@ -11,7 +11,7 @@ import grid
 import planners
 import vectors
 from made import MOST_LENGTHS
-from state import lengths_fit, state_fits
+from state import filled, lengths_fit, state_fits
 
 # Stages that hold a value, a link, a place, a start, the flag; all but 0 hold a cell.
 HOLDS_VALUE = {10}
@@ -30,6 +30,9 @@ HEADER_LINE, LONGEST_LINE = 14, 18  # bytes
 # What a planners' text can show, and the refusals that come before 17.
 TEXTS = ("empty", "one cell", "all cells", "the greatest reading", "a written 0", "exactly long enough", "bytes after the text",
          "17, one byte short", "17, no room for the header", "a cell of five digits")
+# A read's value and flag: what a vector's last step of a read can show.
+READS = ("a written 0", "a written f(i)", "f(i) = 0, not written", "f(i), the link another by now",
+         "a reading where a check now fails")
 TEXT_REFUSALS = ("9 (state)", "8", "10", "9 (word)")
 EXPECTED = (
     [f"stage {n}: ends" for n in ENDS] + [f"stage {n}: goes on" for n in GOES]
@@ -37,7 +40,8 @@ EXPECTED = (
     + [f"{call}: refused {n}" for call, numbers in REFUSALS.items() for n in numbers]
     + [f"text: {what}" for what in TEXTS]
     + [f"text: {what} with{out} room" for what in TEXT_REFUSALS for out in ("", "out")]
-    + [f"hour: {n} written" for n in (1, 2, 3, 4)]
+    + [f"hour: {n} written" for n in (1, 2, 3, 4)] + ["hour: a written 0"]
+    + [f"read: {what}" for what in READS]
     + ["hour: 9 (word)", "9 (word) and 18 at once", "open: open", "begin: begun",
        "a large grid's step", "a lane at or above p that is not idle", "8 and 4 at once",
        "10 and 5 at once", "6 and 5 at once", "9 (state) and 8 at once", "1 and 3 at once"]
@@ -77,14 +81,18 @@ def look(vector, seen):
         what = {"going": "goes on", "refused": "9 (word, draw or new number)"}.get(name, "ends")
         seen[f"stage {stage}: {what}"] += 1
         seen["a large grid's step"] += state.m > 1_000
+        if name == "read":
+            look_read(state, state.lanes[first].op, mem, answer, seen)
     elif vector.call == "text":
         look_text(vector, answer, page, fits and right, seen)
     elif vector.call == "hour" and fits and right and answer == ("refused", 9):
         seen["hour: 9 (word)"] += 1
-        found = [grid.look(state, 4 * first + k, mem) for k in range(4)]
-        seen["9 (word) and 18 at once"] += "written" not in found
+        found = [grid.read_whole(state, 4 * first + k, mem) for k in range(4)]
+        seen["9 (word) and 18 at once"] += not any(written for _, written in found)
     elif name == "hour":
         seen[f"hour: {answer[3]} written"] += 1
+        found = [grid.read_whole(state, 4 * first + k, mem) for k in range(4)]
+        seen["hour: a written 0"] += (0, 1) in found
     else:
         seen[f"{vector.call}: {' '.join(map(str, answer)) if name == 'refused' else name}"] += 1
     beyond = state.lanes[state.p:] if state.p <= 16 else ()
@@ -98,6 +106,18 @@ def look(vector, seen):
         seen["6 and 5 at once"] += vector.args[2] >= state.m
     if answer == ("refused", 1):
         seen["1 and 3 at once"] += not lengths_fit(first, vector.args[1], mem)
+
+
+def look_read(state, op, mem, answer, seen):
+    """An answered read: zero load or no load, and whether a second question here would tell otherwise."""
+    _, value, written, _ = answer
+    now = grid.read_whole(state, op.cell, mem)
+    shows = {"a written 0": written and value == 0, "a written f(i)": written and value == filled(state, op.cell),
+             "f(i) = 0, not written": not written and value == 0,
+             "f(i), the link another by now": not written and op.stage != "link" and mem.links[op.cell] != op.link,
+             "a reading where a check now fails": written and now[1] == 0}
+    for what, holds in shows.items():
+        seen[f"read: {what}"] += holds
 
 
 def look_text(vector, answer, page, in_order, seen):

@@ -9,6 +9,7 @@ from state import (CLOSED, IDLE, LANES, MOST_CELLS, SEGMENTS, TOMBSTONE, Lane,
                    offset, place_of, process_of, segment, size, state_fits, with_lane)
 
 CHECK = ("link", "marks", "dir", "mark")  # (a) (b) (c) (d)
+OUTSIDE = (None, None)  # in place of a read's value and flag
 
 
 class Outside(Exception):
@@ -100,7 +101,8 @@ def turn(state, process, op, mem):
             return None, then
         return None, after_check(state, process, then, written)
     if op.stage == "reading":
-        return None, ("read", word(mem.readings, op.cell))
+        # W5: a read that gets here reads a written cell; value and flag are of this step.
+        return None, ("read", word(mem.readings, op.cell), 1)
     return write_rule(state, process, op, mem)
 
 
@@ -131,7 +133,7 @@ def after_check(state, process, op, written):
     if op.kind == "read" and written:
         return Op("read", "reading", op.cell)
     if op.kind == "read":
-        return ("read", filled(state, op.cell))
+        return ("read", filled(state, op.cell), 0)
     if written:
         return ("written",)
     # 3. Let n be the lane's marks in force.
@@ -204,27 +206,23 @@ def hour_summary(state, hour, mem):
         return refused(10, state)
     if hour >= state.m // 4:
         return refused(5, state)
-    cells = range(4 * hour, 4 * hour + 4)
-    found = [look(state, cell, mem) for cell in cells]
-    if "outside" in found:
+    found = [read_whole(state, cell, mem) for cell in range(4 * hour, 4 * hour + 4)]
+    if OUTSIDE in found:
         return refused(9, state)
-    if "written" not in found:
+    held = [value for value, written in found if written]
+    if not held:
         return refused(18, state)
-    held = [word(mem.readings, i) for i, what in zip(cells, found) if what == "written"]
     return ("hour", max(held), sum(held) // len(held), len(held)), state
 
 
-def look(state, cell, mem):
-    """Whether a cell is written, or a word of its check lies outside."""
+def read_whole(state, cell, mem):
+    """A read's own steps run to its end: its value and whether the cell is
+    written; OUTSIDE if a word lies there. Whose read it is makes no difference."""
+    then = Op("read", "link", cell)
     try:
-        return "written" if is_written(state, cell, mem) else "not written"
+        while isinstance(then, Op):
+            _, then = turn(state, 0, then, mem)
     except Outside:
-        return "outside"
-
-
-def is_written(state, cell, mem):
-    """The check of a cell, run to its end."""
-    written, op = None, Op("asked", "link", cell)
-    while written is None:
-        written, op = check(state, op, mem)
-    return written
+        return OUTSIDE
+    _, value, written = then
+    return value, written

@@ -1,6 +1,8 @@
-"""01's examples 1 to 10 on the independent machine, with state and memory after each step where 01 tells them."""
+"""01's examples 1 to 10 on the independent machine, with state and memory after each step where 01 tells them; and what
+02's W5 makes of a read's answer."""
 
 import grid
+import planners
 from state import (TOMBSTONE, IDLE, LANES, Memories, State, filled, lengths, link_to, offset,
                    place_of, process_of, segment)
 
@@ -71,6 +73,43 @@ def example_9():
     assert mem.pool[:3] == [TOMBSTONE, 0, 1] and mem.pool[6] == 1 and mem.directory[17] == 6
 
 
+def listing():
+    """01's listing as W5 changes it: `read 7 0 1` and `read 9 1 5`."""
+    state, mem = opened(1, 2, 2**64 - 1)
+    answer, state = run(begun(state, 0, "read", 0, 0), mem, 0, 1, ("link",))
+    assert answer == ("read", 7, 0, 1)
+    answer, state = run(begun(state, 0, "write", 0, 9), mem, 0, 7)
+    assert answer == ("written", 7)
+    answer, _ = run(begun(state, 0, "read", 0, 0), mem, 0, 5, ("link", "marks", "dir", "mark", "reading"))
+    assert answer == ("read", 9, 1, 5)
+
+
+def zero_or_none():
+    """A written 0 and an untouched cell, in a read, the summary and the text."""
+    state, mem = opened(1, 4, 0, first=0)
+    _, state = run(begun(state, 0, "write", 1, 0), mem, 0, 9)
+    answer, state = run(begun(state, 0, "read", 1, 0), mem, 0, 5)
+    assert answer == ("read", 0, 1, 5)
+    answer, state = run(begun(state, 0, "read", 2, 0), mem, 0, 4)  # the old link's place holds the tombstone
+    assert answer == ("read", 0, 0, 4)
+    assert grid.hour_summary(state, 0, mem) == (("hour", 0, 0, 1), state)
+    assert planners.text(state, mem, 100) == "quarter,load\r\n1,0\r\n"
+
+
+def one_point():
+    """Not written: value and flag are those of (a). Written: those of the reading step."""
+    state, mem = opened(2, 1, 0)
+    _, state = run(begun(state, 1, "read", 0, 0), mem, 1, 1, ("link",))
+    answer, state = run(begun(state, 0, "write", 0, 9), mem, 0, 9)
+    assert answer == ("written", 9)
+    answer, state = run(state, mem, 1, 3, ("marks", "dir", "mark"))
+    assert answer == ("read", 7, 0, 4)
+    _, state = run(begun(state, 1, "read", 0, 0), mem, 1, 4)
+    _, state = run(begun(state, 0, "write", 0, 0), mem, 0, 1, ("store",))
+    answer, state = run(state, mem, 1, 1, ("reading",))
+    assert answer == ("read", 0, 1, 5)
+
+
 def refusals():
     none = Memories([], [], [], [])
     assert grid.open_grid(17, 0, 0, 0, none)[0] == ("refused", 1)
@@ -95,4 +134,7 @@ if __name__ == "__main__":
     examples_5_6()
     example_9()
     refusals()
-    print("01's examples 1 to 10 hold")
+    listing()
+    zero_or_none()
+    one_point()
+    print("01's examples 1 to 10 hold, and W5's reads")

@@ -28,6 +28,31 @@ DRAW_AGAIN = Mutant("a segment drawn again after a take-back", BOTH, (
     ("grid.py", "if segment(n) >= lane.drawn:",
      "if segment(n) >= lane.drawn or offset(n) == 0:"),))
 
+# A read's answer: where it is not written, and where it is.
+NOT_WRITTEN = '("read", filled(state, op.cell), 0)'
+IS_WRITTEN = '("read", word(mem.readings, op.cell), 1)'
+READS = BOTH + PLANNERS
+# Lets the end of a failed check see the memories.
+SEEING = (("grid.py", "after_check(state, process, then, written)", "after_check(state, process, then, written, mem)"),
+          ("grid.py", "def after_check(state, process, op, written):", "def after_check(state, process, op, written, mem):"))
+
+FLAG_ONE = Mutant("the flag fixed to 1", READS, (
+    ("grid.py", NOT_WRITTEN, '("read", filled(state, op.cell), 1)'),))
+FLAG_ZERO = Mutant("the flag fixed to 0", READS, (
+    ("grid.py", IS_WRITTEN, '("read", word(mem.readings, op.cell), 0)'),))
+FLAG_OF_ZERO = Mutant("a written 0 told as not written", READS, (
+    ("grid.py", IS_WRITTEN, '("read", word(mem.readings, op.cell), int(word(mem.readings, op.cell) != 0))'),))
+FLAG_OF_FILL = Mutant("a written f(i) told as not written", READS, (
+    ("grid.py", IS_WRITTEN,
+     '("read", word(mem.readings, op.cell), int(word(mem.readings, op.cell) != filled(state, op.cell)))'),))
+# Value and flag of two steps. The link has changed exactly if the cell was written meanwhile.
+FLAG_AT_END = Mutant("f(i), and the flag of the step that ends the read", BOTH, SEEING + (
+    ("grid.py", NOT_WRITTEN, '("read", filled(state, op.cell), int(mem.links[op.cell] != op.link))'),))
+VALUE_AT_END = Mutant("flag 0, and the value of the step that ends the read", BOTH, SEEING + (
+    ("grid.py", NOT_WRITTEN,
+     '("read", filled(state, op.cell) if mem.links[op.cell] == op.link else mem.readings[op.cell], 0)'),))
+FLAG_MISTAKES = (FLAG_ONE, FLAG_ZERO, FLAG_OF_ZERO, FLAG_OF_FILL, FLAG_AT_END, VALUE_AT_END)
+
 STEP_8 = """    if not lengths_fit(state.p, state.m, mem):
         return refused(8, state)
 """
@@ -46,10 +71,11 @@ HOUR_10 = """    if any(lane.op is not None for lane in state.lanes[:state.p]):
 HOUR_5 = """    if hour >= state.m // 4:
         return refused(5, state)
 """
-HOUR_9 = """    if "outside" in found:
+HOUR_9 = """    if OUTSIDE in found:
         return refused(9, state)
 """
-HOUR_18 = """    if "written" not in found:
+HOUR_18 = """    held = [value for value, written in found if written]
+    if not held:
         return refused(18, state)
 """
 FILE_16 = """    if len(data) > LONGEST:
@@ -105,7 +131,7 @@ MUTANTS = [
         "               and process_of(then.link) == process):\n"
         "            written, then = check(state, then, mem)\n"),
     one("the reading given at (d)", BOTH, "grid.py",
-        'return Op("read", "reading", op.cell)', 'return ("read", state.first)'),
+        'return Op("read", "reading", op.cell)', 'return ("read", state.first, 1)'),
     one("f(i) without the modulo", BOTH, "state.py",
         "(state.first + state.step * cell) % 2**32", "state.first + state.step * cell"),
     one("mark read only if its whole segment lies in the pool", CALLS, "grid.py",
@@ -117,6 +143,17 @@ MUTANTS = [
     one("start plus offset kept in 32 bits", CALLS, "grid.py",
         "mark = word(mem.pool, op.start + offset(place))",
         "mark = word(mem.pool, (op.start + offset(place)) % 2**32)"),
+    # A read's value and flag.
+    *FLAG_MISTAKES,
+    one("the flag looked up again at the reading, by (a)", CALLS, "grid.py", IS_WRITTEN,
+        '("read", word(mem.readings, op.cell), int(process_of(word(mem.links, op.cell)) < state.p))'),
+    Mutant("the reading taken at (a)", FILES, (
+        ("grid.py", 'op = Op(op.kind, "marks", op.cell, link=link)',
+         'op = Op(op.kind, "marks", op.cell, mem.readings[op.cell], link)'),
+        ("grid.py", 'return Op("read", "reading", op.cell)', 'return Op("read", "reading", op.cell, op.value)'),
+        ("grid.py", IS_WRITTEN, '("read", op.value, 1)'))),
+    one("the flag after the count", BOTH, "grid.py",
+        "then + (steps + 1,)", "then[:2] + (steps + 1,) + then[2:]"),
     # Drawing and the tombstone.
     one("drawn counted up by one", CALLS, "grid.py",
         '("top", state.top + size(s), s + 1)', '("top", state.top + size(s), lane.drawn + 1)'),
@@ -177,8 +214,9 @@ MUTANTS = [
     # The summary.
     exchanged("summary: 9 (word) and 18 exchanged", CALLS, "grid.py", HOUR_9, HOUR_18),
     one("a cell not written counts with f(i)", CALLS, "grid.py",
-        "[word(mem.readings, i) for i, what in zip(cells, found) if what == \"written\"]",
-        "[word(mem.readings, i) if what == \"written\" else filled(state, i) for i, what in zip(cells, found)]"),
+        "for value, written in found if written]", "for value, _ in found]"),
+    one("a written 0 does not count", CALLS, "grid.py",
+        "for value, written in found if written]", "for value, written in found if written and value]"),
     one("the mean divided by four", CALLS, "grid.py", "sum(held) // len(held),", "sum(held) // 4,"),
     one("the sum kept in 32 bits", CALLS, "grid.py", "sum(held) //", "sum(held) % 2**32 //"),
     one("a last part hour is answered", CALLS, "grid.py",
@@ -198,18 +236,17 @@ MUTANTS = [
         "fills = low, header.fill, low, low", "fills = low, low, low, low"),
     # The planners' text.
     one("text: a cell not written listed", PLANNERS, "planners.py",
-        "if grid.is_written(state, cell, mem)]", "if grid.is_written(state, cell, mem) or cell == 1]"),
+        "in enumerate(found) if written]", "in enumerate(found) if written or cell == 1]"),
     one("text: a written 0 left out", PLANNERS, "planners.py",
-        "if grid.is_written(state, cell, mem)]",
-        "if grid.is_written(state, cell, mem) and mem.readings[cell]]"),
+        "in enumerate(found) if written]", "in enumerate(found) if written and value]"),
     one("text: cells in falling order", PLANNERS, "planners.py",
-        "for cell in range(state.m) if", "for cell in reversed(range(state.m)) if"),
+        "in enumerate(found) if written]", "in reversed(list(enumerate(found))) if written]"),
     one("text: LF for CRLF", PLANNERS, "planners.py", 'LINE_END = "\\r\\n"', 'LINE_END = "\\n"'),
     one("text: no header", PLANNERS, "planners.py", "rows = [HEADER] + [", "rows = ["),
     one("text: given while an operation is under way", PLANNERS + CALLS, "planners.py", TEXT_10, ""),
     exchanged("text: 8 and 10 exchanged", CALLS, "planners.py", TEXT_8, TEXT_10),
     one("text: 17 before 9 (word)", CALLS, "planners.py",
-        "    except grid.Outside:\n        return 9", "    except grid.Outside:\n        return 9 if room else 17"),
+        "in found:\n        return 9", "in found:\n        return 9 if room else 17"),
     one("text: 17 where it just fits", CALLS, "planners.py", "if len(lines) > room:", "if len(lines) >= room:"),
     one("text: one byte short is taken for enough", CALLS, "planners.py",
         "if len(lines) > room:", "if len(lines) > room + 1:"),
@@ -218,7 +255,7 @@ MUTANTS = [
     one("text: the bytes after it cleared", CALLS, "calls.py",
         "enumerate(found.encode()):", "enumerate(found.encode().ljust(len(page), bytes(1))):"),
     one("text: a cell's reading by the filling rule", PLANNERS, "planners.py",
-        "(cell, mem.readings[cell])", "(cell, (state.first + state.step * cell) % 2**32)"),
+        "(cell, value)", "(cell, (state.first + state.step * cell) % 2**32)"),
     # The writer.
     one("writer: a step keeps its cell", REWRITE, "writer.py", '"step": ()', '"step": ("cell",)'),
     one("writer: a read keeps its value", REWRITE, "writer.py", '"read": ("cell",)', '"read": ("cell", "value")'),

@@ -21,11 +21,10 @@ def text(state, mem, room):
         return 8
     if any(lane.op is not None for lane in state.lanes[:state.p]):
         return 10
-    try:
-        written = [cell for cell in range(state.m) if grid.is_written(state, cell, mem)]
-    except grid.Outside:
+    found = [grid.read_whole(state, cell, mem) for cell in range(state.m)]
+    if grid.OUTSIDE in found:
         return 9
-    rows = [HEADER] + [(cell, mem.readings[cell]) for cell in written]
+    rows = [HEADER] + [(cell, value) for cell, (value, written) in enumerate(found) if written]
     lines = "".join(f"{one},{other}{LINE_END}" for one, other in rows)
     if len(lines) > room:
         return 17

@@ -16,7 +16,7 @@ import time
 from collections import namedtuple
 
 import grid
-from mutant_list import DRAW_AGAIN, NO_TOMBSTONE, SWAP_FIRST
+from mutant_list import DRAW_AGAIN, FLAG_MISTAKES, NO_TOMBSTONE, SWAP_FIRST
 from mutants import mutated
 from state import TOMBSTONE, Memories, lengths, link_to
 
@@ -52,7 +52,8 @@ def placed(guess, q):
         cells = cells[:cell] + ((value, 1),) + cells[cell + 1:]
         answer = ("written",)
     else:
-        answer = ("read", held) if kind == "read" else ("asked", written)
+        # W5: the array answers a read with value and flag of this one point.
+        answer = ("read", held, written) if kind == "read" else ("asked", written)
     return cells, with_pending(pending, q, ("placed", answer))
 
 
@@ -148,6 +149,8 @@ SCRIPTS = (  # p 2, m 1 or 2: two or three operations
     (1, ((w(0, 1),), (w(0, 2), A0))),
     (1, ((w(0, 1),), (R0, R0))),
     (1, ((w(0, 1),), (A0, R0))),
+    (1, ((w(0, 0),), (R0, R0))),      # a written 0
+    (1, ((w(0, FIRST),), (R0, R0))),  # a written f(i)
     (1, ((w(0, 1), w(0, 3)), (w(0, 2),))),
     (2, ((w(0, 1), w(1, 3)), (w(0, 2),))),
     (2, ((w(0, 1), w(1, 3)), (R0, A1))),
@@ -203,7 +206,7 @@ def main():
               f"{time.monotonic() - start:.0f} s")
         return
     missed = 0
-    for mutant in (NO_TOMBSTONE, SWAP_FIRST, DRAW_AGAIN):
+    for mutant in (NO_TOMBSTONE, SWAP_FIRST, DRAW_AGAIN) + FLAG_MISTAKES:
         try:
             whole(mutated(mutant, "grid"))
             missed += 1

@@ -14,6 +14,7 @@ import qhs
 from files import ONES, header, record
 
 FULL = 2**32 - 1
+FIRST = 7  # f(i) of every cell of a file made here
 
 
 def at_rest(data):
@@ -33,7 +34,7 @@ def at_rest(data):
 
 def written(m, cells, value, fill=ONES):
     """A file in which process 0 writes the cells one after the other."""
-    run = files.Schedule(random.Random(m), 1, m, 7, 0, fill)
+    run = files.Schedule(random.Random(m), 1, m, FIRST, 0, fill)
     for cell in cells:
         run.put("write", 0, cell, value(cell))
         while run.stage(0):
@@ -46,6 +47,7 @@ def cases():
         yield header(m=m)                                       # no cell written
         yield written(m, (0,), lambda cell: 0)                  # one cell, 0
         yield written(m, (m - 1,), lambda cell: FULL)           # one cell, the greatest reading
+        yield written(m, (m - 1,), lambda cell: FIRST)          # one cell, its f(i)
     for m in (1, 2, 10, 12, 101):
         for fill in (0, ONES):
             yield written(m, range(m), lambda cell: 10**(cell % 10), fill)        # all cells
@@ -73,7 +75,8 @@ def kinds(data):
     if not out.startswith("quarter"):
         return [out.strip()]
     lines = out.split("\r\n")[1:-1]
-    m = qhs.read_file(data)[0].m
+    head = qhs.read_file(data)[0]
+    m, rows = head.m, [map(int, line.split(",")) for line in lines]
     found = ["empty" if not lines else "one cell" if len(lines) == 1 else "cells"]
     if len(lines) == m and m > 1:
         found.append("all cells")
@@ -81,10 +84,13 @@ def kinds(data):
         found.append("the greatest reading")
     if any(line.endswith(",0") for line in lines):
         found.append("a written 0")
+    if any(load == (head.first + head.step * quarter) % 2**32 for quarter, load in rows):
+        found.append("a written f(i)")
     return found
 
 
-EXPECTED = (["empty", "one cell", "cells", "all cells", "the greatest reading", "a written 0", "refused 10"]
+EXPECTED = (["empty", "one cell", "cells", "all cells", "the greatest reading", "a written 0", "a written f(i)",
+             "refused 10"]
             + [f"file refused {n}" for n in (1, 2, 11, 12, 13, 14, 15, 16)])
 
 
