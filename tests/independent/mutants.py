@@ -26,10 +26,10 @@ from mutant_list import MUTANTS
 HERE = pathlib.Path(__file__).resolve().parent
 SOURCES = ("state.py", "grid.py", "qhs.py", "program.py", "planners.py", "writer.py", "calls.py")
 # A mutant is first tried on this many; on all the fixed ones if none tells it apart.
-SOME_FILES, ALL_FILES = 700, 2_000
-SOME_SHEETS, ALL_SHEETS = 200, 600
-SOME_ROUNDS, ALL_ROUNDS = 200, 600
-SOME_VECTORS, ALL_VECTORS = 6_000, 20_000
+SOME_FILES, ALL_FILES = 300, 2_000
+SOME_SHEETS, ALL_SHEETS = 100, 600
+SOME_ROUNDS, ALL_ROUNDS = 100, 600
+SOME_VECTORS, ALL_VECTORS = 2_000, 20_000
 
 sys.dont_write_bytecode = True
 
