@@ -196,7 +196,7 @@ pub fn run(
         let answer = b.answer;
         put(answers, i, code_of(answer));
         i = i + 1;
-        if acts::changes(answer) {
+        if begins::changes(answer) {
             let lane = b.lane;
             t.top = b.top;
             t.lanes[k] = lane;

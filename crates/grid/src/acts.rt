@@ -6,7 +6,7 @@ ghost use Rattle.numbers.specs.Numbers.{mostSteps};
 ghost use Rattle.steps.specs.Memory.{memory};
 ghost use Rattle.steps.specs.Changes.{laneAfter, topAfter};
 ghost use Rattle.grid.specs.Calls.{namedIn, namedAt, named, advance, answerOf, decided, verdictOf, effect, actOf};
-ghost use Rattle.grid.specs.Inner.{changes, Judged, changeFits, stageNew, opNew, nextFits, newFits, Told, movedTo};
+ghost use Rattle.grid.specs.Inner.{Judged, changeFits, stageNew, opNew, nextFits, newFits, Told, movedTo};
 use super::Acted;
 use super::Answer;
 use super::Verdict;
@@ -266,20 +266,6 @@ fn moved(l: Lane, top: u32, change: Change, next: Next) -> Acted
         lane: advance(lane_after(l, change), next),
         top: top_after(top, change),
         answer: answer_of(l.steps, next),
-    }
-}
-
-// Only a refusal changes nothing.
-pub fn changes(a: Answer) -> bool
-    ensures { λ r. ⌜ r ≡ changes a ⌝ }
-{
-    match a {
-        Answer::Begun => true,
-        Answer::Going => true,
-        Answer::Read(_, _, _) => true,
-        Answer::Written(_) => true,
-        Answer::Asked(_, _) => true,
-        Answer::Refused(_) => false,
     }
 }
 

@@ -1,11 +1,11 @@
-// Beginning an operation: the refusals, and the lane that it starts from.
+// Beginning an operation: the refusals, and the lane that it starts from. What a refusal of any call leaves.
 ghost use mathlib.Core.Path.{_≡_};
 ghost use mathlib.Core.Bool.{true, _&&_};
 ghost use Prim.Native.Nat.{_<_, _≤_};
 ghost use Rattle.numbers.specs.Numbers.{mostProcesses};
 ghost use Rattle.refusals.specs.Orders.{pick};
 ghost use Rattle.grid.specs.Calls.{cellOf, opOf, begunOf};
-ghost use Rattle.grid.specs.Inner.{laneAt};
+ghost use Rattle.grid.specs.Inner.{laneAt, changes};
 use super::Acted;
 use super::Answer;
 use super::Ask;
@@ -66,6 +66,20 @@ pub fn refused(l: Lane, top: u32, r: Refusal) -> Acted
         lane: l,
         top: top,
         answer: Answer::Refused(r),
+    }
+}
+
+// Only a refusal changes nothing.
+pub fn changes(a: Answer) -> bool
+    ensures { λ r. ⌜ r ≡ changes a ⌝ }
+{
+    match a {
+        Answer::Begun => true,
+        Answer::Going => true,
+        Answer::Read(_, _, _) => true,
+        Answer::Written(_) => true,
+        Answer::Asked(_, _) => true,
+        Answer::Refused(_) => false,
     }
 }
 

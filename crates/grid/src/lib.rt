@@ -146,7 +146,7 @@ pub fn step(
     }
     let b = acts::act(fits, z, q, l, other.marks, readings, links, directory, pool);
     let answer = b.answer;
-    if acts::changes(answer) {
+    if begins::changes(answer) {
         let lane = b.lane;
         t.top = b.top;
         t.lanes[k] = lane;
