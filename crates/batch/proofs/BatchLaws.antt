@@ -19,13 +19,13 @@ use Rattle.lanes.specs.Ranges.{laneOf, sizesFit, stateFits}
 use Rattle.lanes.specs.Scan.{Passed, passed-all}
 use Rattle.steps.specs.declared.Sizes.{Sizes}
 use Rattle.steps.specs.Memory.{Memory, memory}
-use Rattle.grid.specs.declared.Acted.{Acted}
-use Rattle.grid.specs.declared.Stepped.{Stepped}
-use Rattle.grid.specs.declared.Ask.{Ask}
-use Rattle.grid.specs.declared.Ask.the-variants as Ask
-use Rattle.grid.specs.Calls.{begunOf, effect, actOf, sizesOf, steppedAs, named, Effect, Outcome, outcome, beginOf, verdictOf, stepOf}
-use Rattle.grid.specs.Inner.{laneAt, changes}
-use Rattle.grid.proofs.StateLaws.{begun-is, begun-kept, step-is, moved-kept}
+use Rattle.acts.specs.declared.Acted.{Acted}
+use Rattle.acts.specs.declared.Stepped.{Stepped}
+use Rattle.acts.specs.declared.Ask.{Ask}
+use Rattle.acts.specs.declared.Ask.the-variants as Ask
+use Rattle.acts.specs.Calls.{begunOf, effect, actOf, sizesOf, steppedAs, named, Effect, Outcome, outcome, beginOf, verdictOf, stepOf}
+use Rattle.acts.specs.Inner.{laneAt, changes}
+use Rattle.acts.proofs.StateLaws.{begun-is, begun-kept, step-is, moved-kept}
 use Rattle.batch.specs.Batch.{beginning, askOf, entered, codeOf, answerOf, Batch, batch, entering, onward, after, answerAt, Told, least, entries, batchOf, entryOf}
 use Rattle.batch.specs.Kept.{begin-keeps, step-keeps}
 

@@ -8,8 +8,8 @@ use lib.Dec.{eqb}
 use borrow.Author.Tests.{ne-eqb}
 use Rattle.refusals.specs.Numbers.{numberOf, refusalOf}
 use Rattle.refusals.specs.declared.Refusal.{Refusal}
-use Rattle.grid.specs.declared.Answer.{Answer}
-use Rattle.grid.specs.declared.Answer.the-variants as Answer
+use Rattle.acts.specs.declared.Answer.{Answer}
+use Rattle.acts.specs.declared.Answer.the-variants as Answer
 use Rattle.batch.specs.Batch.{codeWith, bit, countOf, codeOf, answerOf}
 use Rattle.batch.specs.Words.{stepsOf, number-few, answer-back}
 

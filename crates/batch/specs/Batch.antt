@@ -13,11 +13,11 @@ use Rattle.lanes.specs.declared.Lane.{Lane}
 use Rattle.lanes.specs.declared.State.{State}
 use Rattle.steps.specs.declared.Sizes.{Sizes}
 use Rattle.steps.specs.Memory.{Memory}
-use Rattle.grid.specs.declared.Ask.{Ask}
-use Rattle.grid.specs.declared.Ask.the-variants as Ask
-use Rattle.grid.specs.declared.Answer.{Answer}
-use Rattle.grid.specs.declared.Answer.the-variants as Answer
-use Rattle.grid.specs.Calls.{beginOf, begunOf, Effect, effect, actOf, Outcome, outcome, stepOf}
+use Rattle.acts.specs.declared.Ask.{Ask}
+use Rattle.acts.specs.declared.Ask.the-variants as Ask
+use Rattle.acts.specs.declared.Answer.{Answer}
+use Rattle.acts.specs.declared.Answer.the-variants as Answer
+use Rattle.acts.specs.Calls.{beginOf, begunOf, Effect, effect, actOf, Outcome, outcome, stepOf}
 
 -- An entry of kind 1 begins a read, 2 a write, 3 an asked; one of any other kind is a step.
 abbrev pub beginning : ℕ → Bool

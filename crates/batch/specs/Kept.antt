@@ -27,13 +27,13 @@ use Rattle.steps.specs.declared.Turn.the-variants as Turn
 use Rattle.steps.specs.Memory.{Memory}
 use Rattle.steps.specs.Steps.{turnOf}
 use Rattle.steps.specs.Changes.{laneAfter, topAfter}
-use Rattle.grid.specs.declared.Ask.{Ask}
-use Rattle.grid.specs.declared.Ask.the-variants as Ask
-use Rattle.grid.specs.declared.Acted.{Acted}
-use Rattle.grid.specs.declared.Answer.the-variants as Answer
-use Rattle.grid.specs.declared.Verdict.{Verdict}
-use Rattle.grid.specs.declared.Verdict.the-variants as Verdict
-use Rattle.grid.specs.Calls.{settled, refusedAs, begunOf, beginOf, cellOf, opOf, advance, numbersFit, decided, verdictOf, effectOf, outcomeAs, sizesOf, seenBy, lengthsFit, stepOf}
+use Rattle.acts.specs.declared.Ask.{Ask}
+use Rattle.acts.specs.declared.Ask.the-variants as Ask
+use Rattle.acts.specs.declared.Acted.{Acted}
+use Rattle.acts.specs.declared.Answer.the-variants as Answer
+use Rattle.acts.specs.declared.Verdict.{Verdict}
+use Rattle.acts.specs.declared.Verdict.the-variants as Verdict
+use Rattle.acts.specs.Calls.{settled, refusedAs, begunOf, beginOf, cellOf, opOf, advance, numbersFit, decided, verdictOf, effectOf, outcomeAs, sizesOf, seenBy, lengthsFit, stepOf}
 
 -- a lane put back
 put-back : (s : State) (q : ℕ) → settled s q (laneOf s q) (s .top) ≡ s

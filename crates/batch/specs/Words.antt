@@ -9,8 +9,8 @@ use Rattle.refusals.specs.Numbers.{numberOf}
 use Rattle.refusals.specs.Laws.{refusal-back}
 use Rattle.refusals.specs.declared.Refusal.{Refusal}
 use Rattle.refusals.specs.declared.Refusal.the-variants as Refusal
-use Rattle.grid.specs.declared.Answer.{Answer}
-use Rattle.grid.specs.declared.Answer.the-variants as Answer
+use Rattle.acts.specs.declared.Answer.{Answer}
+use Rattle.acts.specs.declared.Answer.the-variants as Answer
 use Rattle.batch.specs.Batch.{codeWith, bit, codeOf, answerAs, answerOf}
 
 -- An answer's steps; 0 where it has none.

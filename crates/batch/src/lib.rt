@@ -4,14 +4,14 @@ ghost use Prim.Native.Nat.{_<_};
 ghost use lib.ListN.{set};
 ghost use Rattle.lanes.specs.Ranges.{stateFits};
 ghost use Rattle.steps.specs.Memory.{memory};
-ghost use Rattle.grid.specs.Calls.{effect};
-ghost use Rattle.grid.specs.Inner.{Judged};
+ghost use Rattle.acts.specs.Calls.{effect};
+ghost use Rattle.acts.specs.Inner.{Judged};
 ghost use Rattle.batch.specs.Batch.{least, bit, countOf, codeWith, codeOf, answerOf, beginning, askOf, entryOf, batch, entries, batchOf, Told};
-use grid::Acted;
-use grid::Answer;
-use grid::Ask;
-use grid::acts;
-use grid::begins;
+use acts::Acted;
+use acts::Answer;
+use acts::Ask;
+use acts::begins;
+use acts::judged;
 use lanes::Lane;
 use lanes::State;
 use numbers::Cell;
@@ -127,7 +127,7 @@ fn entry(
     if beginning(kind) {
         return begins::begun(fits, z.p, z.m, z.top, q, l, ask_of(kind, i, v));
     }
-    acts::act(fits, z, q, l, seen, readings, links, directory, pool)
+    judged::act(fits, z, q, l, seen, readings, links, directory, pool)
 }
 
 fn put(a: &mut [u64], i: usize, w: u64)
@@ -170,7 +170,7 @@ pub fn run(
         let k = begins::lane_of(q);
         let l = t.lanes[k];
         let o = l.op;
-        let j = begins::lane_of(acts::named(o));
+        let j = begins::lane_of(judged::named(o));
         let other = t.lanes[j];
         let z = Sizes {
             p: t.p,

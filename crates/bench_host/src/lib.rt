@@ -4,8 +4,8 @@ ghost use Prim.Native.Nat.{_<_, _≤_};
 pub mod opens;
 pub mod reads;
 
-use grid::Answer;
-use grid::Ask;
+use acts::Answer;
+use acts::Ask;
 use lanes::State;
 use numbers::Cell;
 use numbers::Process;

@@ -1,5 +1,5 @@
 // Opening, by itself.
-use grid::Ask;
+use acts::Ask;
 use numbers::Cell;
 use numbers::Process;
 

@@ -1,6 +1,6 @@
 // Reads of one cell: what one step costs by itself.
-use grid::Ask;
-use grid::Stepped;
+use acts::Ask;
+use acts::Stepped;
 use lanes::State;
 use numbers::Cell;
 use numbers::Process;

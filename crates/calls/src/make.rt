@@ -2,8 +2,8 @@
 use super::show::Said;
 use super::words;
 use super::words::low32;
-use grid::Ask;
-use grid::Opening;
+use acts::Ask;
+use acts::Opening;
 use lanes::State;
 use numbers::Cell;
 use numbers::Process;

@@ -2,7 +2,7 @@
 use super::nine;
 use super::nine::Nine;
 use super::out;
-use grid::Answer;
+use acts::Answer;
 use lanes::State;
 use numbers::LANES;
 use refusals::Refusal;

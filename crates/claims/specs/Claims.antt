@@ -16,12 +16,12 @@ use Rattle.steps.specs.declared.Turn.{Turn}
 use Rattle.steps.specs.Memory.{Memory}
 use Rattle.steps.specs.Steps.{turnOf}
 use Rattle.steps.specs.Changes.{laneAfter, topAfter}
-use Rattle.grid.specs.declared.Ask.{Ask}
-use Rattle.grid.specs.declared.Answer.the-variants as Answer
-use Rattle.grid.specs.declared.Stepped.{Stepped}
-use Rattle.grid.specs.declared.Opening.the-variants as Opening
-use Rattle.grid.specs.declared.Opened.{Opened}
-use Rattle.grid.specs.Calls.{fresh, openOf, beginOf, Outcome, outcome, stepOf, settled, advance, numbersFit, sizesOf, seenBy}
+use Rattle.acts.specs.declared.Ask.{Ask}
+use Rattle.acts.specs.declared.Answer.the-variants as Answer
+use Rattle.acts.specs.declared.Stepped.{Stepped}
+use Rattle.acts.specs.declared.Opening.the-variants as Opening
+use Rattle.acts.specs.declared.Opened.{Opened}
+use Rattle.acts.specs.Calls.{fresh, openOf, beginOf, Outcome, outcome, stepOf, settled, advance, numbersFit, sizesOf, seenBy}
 use Rattle.claims.specs.declared.Word.{Word}
 use Rattle.claims.specs.declared.Word.the-variants as Word
 use Rattle.claims.specs.Words.{wordAt, touched, pastCheck}

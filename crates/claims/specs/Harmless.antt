@@ -15,15 +15,15 @@ use Rattle.lanes.specs.Ranges.{rest, laneOf, stateFits}
 use Rattle.steps.specs.declared.Next.{Next}
 use Rattle.steps.specs.declared.Next.the-variants as Next
 use Rattle.steps.specs.Memory.{Memory}
-use Rattle.grid.specs.declared.Ask.{Ask}
-use Rattle.grid.specs.declared.Acted.{Acted}
-use Rattle.grid.specs.declared.Answer.{Answer}
-use Rattle.grid.specs.declared.Answer.the-variants as Answer
-use Rattle.grid.specs.declared.Opening.{Opening}
-use Rattle.grid.specs.declared.Opening.the-variants as Opening
-use Rattle.grid.specs.declared.Verdict.{Verdict}
-use Rattle.grid.specs.declared.Verdict.the-variants as Verdict
-use Rattle.grid.specs.Calls.{openingOf, openedAs, refusedAs, beginRefusals, opOf, begunOf, settled, steppedAs, answerOf, verdictOf, effectOf, outcome, outcomeAs, sizesOf, seenBy, Outcome}
+use Rattle.acts.specs.declared.Ask.{Ask}
+use Rattle.acts.specs.declared.Acted.{Acted}
+use Rattle.acts.specs.declared.Answer.{Answer}
+use Rattle.acts.specs.declared.Answer.the-variants as Answer
+use Rattle.acts.specs.declared.Opening.{Opening}
+use Rattle.acts.specs.declared.Opening.the-variants as Opening
+use Rattle.acts.specs.declared.Verdict.{Verdict}
+use Rattle.acts.specs.declared.Verdict.the-variants as Verdict
+use Rattle.acts.specs.Calls.{openingOf, openedAs, refusedAs, beginRefusals, opOf, begunOf, settled, steppedAs, answerOf, verdictOf, effectOf, outcome, outcomeAs, sizesOf, seenBy, Outcome}
 use Rattle.claims.specs.Claims.{OneOpening, OneBeginning, OneStep, RefusedOpen, ClosedBegin, ClosedStep, RefusedBegin, RefusedStep, closed}
 
 pub one-opening : OneOpening

@@ -13,7 +13,7 @@ use Rattle.lanes.specs.declared.Lane.{Lane}
 use Rattle.lanes.specs.declared.State.{State}
 use Rattle.lanes.specs.Ranges.{rest, laneOf, below, laneFits, sizesFit, stateFits}
 use Rattle.lanes.specs.Laws.{below-all, and-left, and-right, sized, sizes-of, lane-of}
-use Rattle.grid.specs.Calls.{settled}
+use Rattle.acts.specs.Calls.{settled}
 use Rattle.claims.specs.Claims.{NewNumbers}
 use Rattle.claims.specs.OneWord.{lane-other}
 

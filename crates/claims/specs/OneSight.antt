@@ -22,7 +22,7 @@ use Rattle.steps.specs.declared.Got.the-variants as Got
 use Rattle.steps.specs.declared.Found.{Found}
 use Rattle.steps.specs.Memory.{Memory}
 use Rattle.steps.specs.Steps.{startOf, poolWord, check, checkedTurn, markTurn, readTurn, askedTurn, opTurn}
-use Rattle.grid.specs.Calls.{namedIn, named, sizesOf}
+use Rattle.acts.specs.Calls.{namedIn, named, sizesOf}
 use Rattle.claims.specs.Words.{wordAt, touchedIn, touched, pastCheck}
 use Rattle.claims.specs.Claims.{Alike, SeesOneWord}
 

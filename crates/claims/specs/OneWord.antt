@@ -20,9 +20,9 @@ use Rattle.steps.specs.declared.Next.{Next}
 use Rattle.steps.specs.declared.Next.the-variants as Next
 use Rattle.steps.specs.Memory.{Memory}
 use Rattle.steps.specs.Changes.{laneAfter, topAfter, memoryAfter}
-use Rattle.grid.specs.declared.Verdict.{Verdict}
-use Rattle.grid.specs.declared.Verdict.the-variants as Verdict
-use Rattle.grid.specs.Calls.{settled, advance, verdictOf, effectOf, outcomeAs, sizesOf, seenBy}
+use Rattle.acts.specs.declared.Verdict.{Verdict}
+use Rattle.acts.specs.declared.Verdict.the-variants as Verdict
+use Rattle.acts.specs.Calls.{settled, advance, verdictOf, effectOf, outcomeAs, sizesOf, seenBy}
 use Rattle.claims.specs.declared.Word.{Word}
 use Rattle.claims.specs.declared.Word.the-variants as Word
 use Rattle.claims.specs.Words.{wordAt}

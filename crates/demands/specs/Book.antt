@@ -2,7 +2,7 @@
 -- Assumes nothing.
 use Prim.Native.Nat.{ℕ, suc}
 use mathlib.Core.List.{List, [], _∷_}
-use Rattle.grid.specs.Calls.{cellOf}
+use Rattle.acts.specs.Calls.{cellOf}
 use Rattle.theory.specs.Interface.{upd, Op, read, asked, write, Ans, got, told, done, Done}
 use Rattle.demands.specs.Types.{Ask, Answer}
 use Rattle.demands.specs.Calls.{Machine, Call, begin, step, misfit, World, answerTo, worldAfter}

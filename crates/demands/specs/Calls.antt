@@ -3,7 +3,7 @@
 use Prim.Native.Nat.{ℕ}
 use mathlib.Core.Path.{_≡_}
 use mathlib.Core.Bool.{false}
-use Rattle.grid.specs.Calls.{Outcome, lengthsFit, openOf, beginOf, stepOf}
+use Rattle.acts.specs.Calls.{Outcome, lengthsFit, openOf, beginOf, stepOf}
 use Rattle.demands.specs.Types.{State, Memory, Ask, Answer, Opening, Stepped}
 
 -- What the demands are stated over: how a machine begins an operation, and how it takes a step.

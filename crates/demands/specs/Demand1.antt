@@ -8,7 +8,7 @@ use mathlib.Core.List.{List, [], _∷_}
 use Rattle.refusals.specs.Orders.{Rule, _gives_, orders}
 use Rattle.lanes.specs.Ranges.{laneOf, stateFits}
 use Rattle.steps.specs.Steps.{turnOf}
-use Rattle.grid.specs.Calls.{outcome, openOf, openRefusals, beginRefusals, stepRefusals, sizesOf, seenBy, decided}
+use Rattle.acts.specs.Calls.{outcome, openOf, openRefusals, beginRefusals, stepRefusals, sizesOf, seenBy, decided}
 use Rattle.demands.specs.Types.{Refusal, State, Memory, Ask, Answer, Opening, Stepped, Verdict}
 use Rattle.demands.specs.Calls.{Machine}
 

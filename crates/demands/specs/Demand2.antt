@@ -6,7 +6,7 @@ use Prim.Native.Nat.{ℕ}
 use mathlib.Core.Path.{_≡_}
 use mathlib.Core.Logic.{_⊎_}
 use mathlib.Core.List.{List, List·Memᴰ}
-use Rattle.grid.specs.Calls.{beginOf, stepOf}
+use Rattle.acts.specs.Calls.{beginOf, stepOf}
 use Rattle.theory.specs.Interface.{write, Done, Entry, Orderly, Is}
 use Rattle.demands.specs.Types.{Cell, State, Memory, Ask}
 use Rattle.demands.specs.Calls.{Machine}

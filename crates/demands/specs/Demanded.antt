@@ -8,7 +8,7 @@ use mathlib.Core.List.{List, [], _∷_}
 use lib.Dec.{ltb}
 use Rattle.numbers.specs.Numbers.{fillOf}
 use Rattle.refusals.specs.Orders.{_gives_, orders}
-use Rattle.grid.specs.Calls.{cellOf}
+use Rattle.acts.specs.Calls.{cellOf}
 use Rattle.demands.specs.Types.{Refusal, Memory, Answer}
 use Rattle.demands.specs.Calls.{Machine, Call, begin, step, misfit, answerTo, Accepted, openedWorld}
 use Rattle.demands.specs.Book.{Doing, nothing, busy, Book, Run, run, start}

@@ -12,7 +12,7 @@ use Rattle.refusals.specs.Orders.{pick}
 use Rattle.lanes.specs.Ranges.{laneOf}
 use Rattle.steps.specs.Steps.{startOf, poolWord, checkMark, check, opTurn}
 use Rattle.steps.specs.Changes.{topAfter, memoryAfter}
-use Rattle.grid.specs.Calls.{cellOf, namedIn, named, sizesOf}
+use Rattle.acts.specs.Calls.{cellOf, namedIn, named, sizesOf}
 use Rattle.theory.specs.Interface as Theory
 use Rattle.demands.specs.Types.{Check, Op, State, Memory, Got, Found, Change, Next, Turn, Ask}
 use Rattle.demands.specs.Book.{Book, kindOf}

@@ -9,7 +9,7 @@ use lib.ListN.{length}
 use Rattle.numbers.specs.Numbers.{mostProcesses, mostCells, mostSegments, mostSteps, mostMarks, directoryWords, poolWords, processOf, placeOf}
 use Rattle.lanes.specs.Ranges.{laneOf, checkFits, stageFits, opFits, laneFits, stateFits}
 use Rattle.lanes.specs.Laws.{below-all}
-use Rattle.grid.specs.Calls.{lengthsFit, cellOf}
+use Rattle.acts.specs.Calls.{lengthsFit, cellOf}
 use Rattle.theory.specs.Interface as Theory
 use Rattle.demands.specs.Types.{Cell, Check, Stage, Op, Lane, State, Memory, Ask}
 use Rattle.demands.specs.Book.{Doing, nothing, busy, Book, kindOf}

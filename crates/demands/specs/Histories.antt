@@ -11,7 +11,7 @@ use borrow.Author.Tests.{ltb-true, eqb-true, eq-eqb}
 use lib.Dec.{ltb, eqb}
 use Rattle.refusals.specs.Orders.{pick}
 use Rattle.lanes.specs.Laws.{and-left, and-right}
-use Rattle.grid.specs.Calls.{cellOf}
+use Rattle.acts.specs.Calls.{cellOf}
 use Rattle.theory.specs.Interface as Theory
 use Rattle.theory.specs.Interface.{Op, write, Ans, got, told, done, Done}
 use Rattle.demands.specs.Types.{Ask, Answer}

@@ -4,7 +4,7 @@ use Prim.Native.Nat.{ℕ, suc, _<_}
 use mathlib.Core.Path.{_≡_, refl, sym, ap, _∙_, subst}
 use lib.ListN.{getD, set, length-set}
 use Rattle.lanes.specs.Ranges.{rest, laneOf}
-use Rattle.grid.specs.Calls.{cellOf, opOf, settled}
+use Rattle.acts.specs.Calls.{cellOf, opOf, settled}
 use Rattle.theory.specs.Interface as Theory
 use Rattle.demands.specs.Types.{Lane, State, Memory, Ask}
 use Rattle.demands.specs.Book.{Doing, nothing, busy, Book, kindOf, passed, begun}

@@ -10,7 +10,7 @@ use lib.ListN.{getD}
 use Rattle.numbers.specs.Numbers.{linkProcesses, linkPlaces, segmentOf, packOf, fillOf}
 use Rattle.lanes.specs.Ranges.{laneOf}
 use Rattle.steps.specs.Steps.{readTurn, askedTurn, tombstoneFirst, stageAt, stageNext, entered, checkedTurn}
-use Rattle.grid.specs.Calls.{cellOf}
+use Rattle.acts.specs.Calls.{cellOf}
 use Rattle.theory.specs.Interface as Theory
 use Rattle.demands.specs.Types.{Cell, Place, Check, Stage, Op, Lane, State, Memory, Found, Change, Next, Turn, Ask}
 use Rattle.demands.specs.Book.{Book, kindOf}

@@ -9,7 +9,7 @@ use lib.ListN.{replicate}
 use Rattle.numbers.specs.Numbers.{directoryWords, poolWords, fillOf, logIn, log2, segmentOf, offsetOf, sizeOf}
 use Rattle.lanes.specs.Ranges.{below}
 use Rattle.steps.specs.Memory.{memory}
-use Rattle.grid.specs.Calls.{openingOf, begunOf}
+use Rattle.acts.specs.Calls.{openingOf, begunOf}
 use Rattle.theory.specs.Interface.{upd}
 use Rattle.demands.specs.Types.{Cell, Ask, Answer}
 use Rattle.demands.specs.Calls.{Machine, Call, begin, step, World, openedWorld}

@@ -8,7 +8,7 @@ use Rattle.numbers.specs.Numbers.{packOf}
 use Rattle.refusals.specs.Orders.{pick, orders}
 use Rattle.lanes.specs.Ranges.{laneOf, stateFits}
 use Rattle.steps.specs.Steps.{goes, check, stageNext, checkedTurn, markTurn, writeTurn, opTurn, turnOf}
-use Rattle.grid.specs.Calls as Grid
+use Rattle.acts.specs.Calls as Grid
 use Rattle.demands.specs.Types.{Cell, Stage, Op, Lane, State, Memory, Sizes, Found, Change, Next, Turn, Verdict}
 use Rattle.demands.specs.Calls.{Machine}
 

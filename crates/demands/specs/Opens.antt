@@ -13,7 +13,7 @@ use Rattle.numbers.specs.Numbers.{mostProcesses, mostCells, poolWords, director
 use Rattle.refusals.specs.Orders.{pick}
 use Rattle.lanes.specs.Ranges.{rest}
 use Rattle.lanes.specs.Laws.{and-left, and-right}
-use Rattle.grid.specs.Calls as Grid
+use Rattle.acts.specs.Calls as Grid
 use Rattle.theory.specs.Interface as Theory
 use Rattle.demands.specs.Types.{Refusal, Memory, Opening}
 use Rattle.demands.specs.Calls.{Accepted}

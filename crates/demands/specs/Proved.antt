@@ -10,7 +10,7 @@ use lib.Dec.{ltb}
 use Rattle.numbers.specs.Numbers.{fillOf}
 use Rattle.refusals.specs.Orders.{pick}
 use Rattle.lanes.specs.Ranges.{laneOf}
-use Rattle.grid.specs.Calls as Grid
+use Rattle.acts.specs.Calls as Grid
 use Rattle.theory.specs.Interface as Theory
 use Rattle.demands.specs.Types.{Refusal, State, Memory, Next, Ask, Opening, Stepped}
 use Rattle.demands.specs.Calls.{grid, Call, begin, step, misfit, answerTo}

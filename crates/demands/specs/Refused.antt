@@ -9,7 +9,7 @@ use lib.Seq.{set-getD}
 use Rattle.refusals.specs.Orders.{Rule, _gives_, pick, orders}
 use Rattle.lanes.specs.Ranges.{rest, laneOf, stateFits}
 use Rattle.steps.specs.Steps.{turnOf}
-use Rattle.grid.specs.Calls as Grid
+use Rattle.acts.specs.Calls as Grid
 use Rattle.demands.specs.Types.{Refusal, Lane, State, Memory, Sizes, Next, Turn, Ask, Answer, Opening, Stepped, Acted, Verdict}
 use Rattle.demands.specs.Calls.{grid}
 use Rattle.demands.specs.Demand1.{refused, begins, steps, kind, beginTable, stepTable, moves, wordTable, refusedOn, Demand1, OpenTable}

@@ -4,8 +4,8 @@ use Prim.Native.Nat.{ℕ}
 use mathlib.Core.Path.{sym, subst}
 use mathlib.Core.List.{List, [], _∷_}
 use Rattle.steps.specs.Memory.{Memory}
-use Rattle.grid.specs.declared.Opening.{Opening}
-use Rattle.grid.specs.Calls as Grid
+use Rattle.acts.specs.declared.Opening.{Opening}
+use Rattle.acts.specs.Calls as Grid
 use Rattle.demands.specs.Calls.{grid, Call, begin, step, misfit, Accepted, openedWorld}
 use Rattle.demands.specs.Book.{Run, next, run, start}
 use Rattle.demands.specs.Opens.{opening-open, admitted, good-fresh}

@@ -11,7 +11,7 @@ use lib.Pow.{pow-mono}
 use Rattle.numbers.specs.Numbers.{mostCells, mostSegments, segmentOf, offsetOf, directoryWord, processOf, placeOf, fillOf, tombstone}
 use Rattle.numbers.specs.Laws.{segment-bounds, place-at}
 use Rattle.lanes.specs.Ranges.{laneOf}
-use Rattle.grid.specs.Calls.{cellOf}
+use Rattle.acts.specs.Calls.{cellOf}
 use Rattle.theory.specs.Interface as Theory
 use Rattle.demands.specs.Types.{Check, Stage, Op, State, Memory, Change, Next}
 use Rattle.demands.specs.Book.{Doing, nothing, busy, Book, kindOf}

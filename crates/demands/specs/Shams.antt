@@ -8,7 +8,7 @@ use native.Mathlib.Omega.{arith}
 use lib.ListN.{getD}
 use Rattle.numbers.specs.Numbers.{fillOf, logIn, log2, segmentOf, offsetOf, sizeOf}
 use Rattle.lanes.specs.Ranges.{laneOf, below}
-use Rattle.grid.specs.Calls.{Outcome, outcome, openingOf, begunOf, verdictOf, beginOf, stepOf, settled, withOp}
+use Rattle.acts.specs.Calls.{Outcome, outcome, openingOf, begunOf, verdictOf, beginOf, stepOf, settled, withOp}
 use Rattle.theory.specs.Interface.{upd}
 use Rattle.demands.specs.Types.{Refusal, Check, Stage, Op, State, Memory, Ask, Answer}
 use Rattle.demands.specs.Calls.{Machine, Call, begin, step, World, Accepted}

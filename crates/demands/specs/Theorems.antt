@@ -5,7 +5,7 @@ use mathlib.Core.Path.{_≡_, ap}
 use mathlib.Core.Logic.{_≢_}
 use mathlib.Core.List.{List, List·Memᴰ}
 use Rattle.numbers.specs.Numbers.{fillOf}
-use Rattle.grid.specs.Calls.{Outcome}
+use Rattle.acts.specs.Calls.{Outcome}
 use Rattle.theory.specs.Interface as Theory
 use Rattle.demands.specs.Types.{Refusal, Memory, Answer, Stepped}
 use Rattle.demands.specs.Calls.{grid, Call, begin, step, misfit, World, worldOf, answerTo, worldAfter, Accepted, openedWorld}

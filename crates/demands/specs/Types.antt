@@ -24,13 +24,13 @@ pub use Rattle.steps.specs.declared.Next.{Next}
 pub use Rattle.steps.specs.declared.Next.the-variants as Next
 pub use Rattle.steps.specs.declared.Turn.{Turn}
 pub use Rattle.steps.specs.declared.Turn.the-variants as Turn
-pub use Rattle.grid.specs.declared.Ask.{Ask}
-pub use Rattle.grid.specs.declared.Ask.the-variants as Ask
-pub use Rattle.grid.specs.declared.Answer.{Answer}
-pub use Rattle.grid.specs.declared.Answer.the-variants as Answer
-pub use Rattle.grid.specs.declared.Opening.{Opening}
-pub use Rattle.grid.specs.declared.Opening.the-variants as Opening
-pub use Rattle.grid.specs.declared.Stepped.{Stepped}
-pub use Rattle.grid.specs.declared.Acted.{Acted}
-pub use Rattle.grid.specs.declared.Verdict.{Verdict}
-pub use Rattle.grid.specs.declared.Verdict.the-variants as Verdict
+pub use Rattle.acts.specs.declared.Ask.{Ask}
+pub use Rattle.acts.specs.declared.Ask.the-variants as Ask
+pub use Rattle.acts.specs.declared.Answer.{Answer}
+pub use Rattle.acts.specs.declared.Answer.the-variants as Answer
+pub use Rattle.acts.specs.declared.Opening.{Opening}
+pub use Rattle.acts.specs.declared.Opening.the-variants as Opening
+pub use Rattle.acts.specs.declared.Stepped.{Stepped}
+pub use Rattle.acts.specs.declared.Acted.{Acted}
+pub use Rattle.acts.specs.declared.Verdict.{Verdict}
+pub use Rattle.acts.specs.declared.Verdict.the-variants as Verdict

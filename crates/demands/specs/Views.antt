@@ -10,7 +10,7 @@ use lib.Seq.{getD-set-same}
 use Rattle.numbers.specs.Numbers.{poolWords}
 use Rattle.lanes.specs.Ranges.{rest, laneOf, idle, laneFits, stateFits}
 use Rattle.steps.specs.Changes.{topAfter}
-use Rattle.grid.specs.Calls as Grid
+use Rattle.acts.specs.Calls as Grid
 use Rattle.theory.specs.Interface as Theory
 use Rattle.demands.specs.Types.{Refusal, Op, Lane, State, Memory, Ask, Answer, Stepped, Verdict}
 use Rattle.demands.specs.Calls.{grid, Call, begin, step, misfit}

@@ -13,7 +13,7 @@ use Rattle.refusals.specs.Orders.{pick}
 use Rattle.lanes.specs.Ranges.{laneOf}
 use Rattle.steps.specs.Steps.{goes, startOf, stageNext, entered, stored, markTurn, writeTurn}
 use Rattle.steps.specs.Changes.{memoryAfter}
-use Rattle.grid.specs.Calls.{cellOf, namedAt, sizesOf}
+use Rattle.acts.specs.Calls.{cellOf, namedAt, sizesOf}
 use Rattle.theory.specs.Interface as Theory
 use Rattle.demands.specs.Types.{Cell, Place, Check, Stage, Op, State, Memory, Change, Next, Turn, Ask}
 use Rattle.demands.specs.Book.{busy, Book, kindOf}

@@ -1,71 +1,17 @@
 // The grid: open it, begin an operation, take a step.
 ghost use mathlib.Core.Path.{_≡_};
 ghost use Rattle.steps.specs.Memory.{memory};
-ghost use Rattle.grid.specs.Calls.{outcome, openOf, beginOf, stepOf};
-
-pub mod acts;
-pub mod begins;
-pub mod opens;
-
-use lanes::Lane;
-use lanes::Op;
+ghost use Rattle.acts.specs.Calls.{outcome, openOf, beginOf, stepOf};
+use acts::Ask;
+use acts::Opened;
+use acts::Opening;
+use acts::Stepped;
+use acts::begins;
+use acts::judged;
+use acts::opens;
 use lanes::State;
-use numbers::Cell;
-use numbers::LANES;
 use numbers::Process;
-use refusals::Refusal;
-use steps::Change;
-use steps::Next;
 use steps::Sizes;
-
-// What an operation is to be.
-pub enum Ask {
-    Read(Cell),
-    Write(Cell, u32),
-    Asked(Cell),
-}
-
-// What a call answers. A finished operation says how many of its own steps it took.
-pub enum Answer {
-    Begun,
-    Going,
-    // the value, and whether the cell was written when it was read
-    Read(u32, bool, u8),
-    Written(u8),
-    Asked(bool, u8),
-    Refused(Refusal),
-}
-
-// A state, and what was answered.
-pub struct Stepped {
-    pub state: State,
-    pub answer: Answer,
-}
-
-// Whether a grid was opened.
-pub enum Opening {
-    Open,
-    Refused(Refusal),
-}
-
-// The grid's state; where it was refused, the closed state, which every call refuses.
-pub struct Opened {
-    pub state: State,
-    pub opening: Opening,
-}
-
-// What a call makes of a lane and of the pool's top, and what it answers.
-pub struct Acted {
-    pub lane: Lane,
-    pub top: u32,
-    pub answer: Answer,
-}
-
-// What a step comes to.
-pub enum Verdict {
-    Refused(Refusal),
-    Moved(Change, Next),
-}
 
 // Opens a grid in lent memory of any content: only the lengths are looked at.
 pub fn open(
@@ -128,7 +74,7 @@ pub fn step(
     let k = begins::lane_of(q);
     let l = t.lanes[k];
     let o = l.op;
-    let j = begins::lane_of(acts::named(o));
+    let j = begins::lane_of(judged::named(o));
     let other = t.lanes[j];
     let z = Sizes {
         p: t.p,
@@ -144,7 +90,7 @@ pub fn step(
         fits = begins::both(fits, lanes::lane_fits(t.p, t.m, t.lanes[i]));
         i = i + 1;
     }
-    let b = acts::act(fits, z, q, l, other.marks, readings, links, directory, pool);
+    let b = judged::act(fits, z, q, l, other.marks, readings, links, directory, pool);
     let answer = b.answer;
     if begins::changes(answer) {
         let lane = b.lane;

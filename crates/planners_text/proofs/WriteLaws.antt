@@ -11,7 +11,7 @@ use Rattle.refusals.specs.Orders.{pick}
 use Rattle.refusals.specs.declared.Refusal.the-variants as Refusal
 use Rattle.lanes.specs.declared.State.{State}
 use Rattle.steps.specs.Memory.{Memory}
-use Rattle.grid.specs.Calls.{lengthsFit}
+use Rattle.acts.specs.Calls.{lengthsFit}
 use Rattle.quiet.specs.declared.Scan.{Scan}
 use Rattle.quiet.specs.Quiet.{unfit, atWork, scanOf}
 use Rattle.text.specs.declared.Put.{Put}

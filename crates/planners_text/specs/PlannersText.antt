@@ -10,7 +10,7 @@ use Rattle.refusals.specs.declared.Refusal.the-variants as Refusal
 use Rattle.lanes.specs.declared.State.{State}
 use Rattle.lanes.specs.Ranges.{below}
 use Rattle.steps.specs.Memory.{Memory}
-use Rattle.grid.specs.Calls.{lengthsFit}
+use Rattle.acts.specs.Calls.{lengthsFit}
 use Rattle.text.specs.Text.{word, decimal, splice}
 use Rattle.quiet.specs.declared.Quarter.{Quarter}
 use Rattle.quiet.specs.declared.Quarter.the-variants as Quarter

@@ -6,8 +6,8 @@ ghost use Rattle.planners_text.specs.PlannersText.{textOf, page, putText
 
 mod cells;
 
+use acts::opens;
 use cells::Measured;
-use grid::opens;
 use lanes::State;
 use refusals::Refusal;
 

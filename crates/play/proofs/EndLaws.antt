@@ -7,8 +7,8 @@ use native.Mathlib.Omega.{arith}
 use lib.ListN.{length}
 use Rattle.qhs.specs.declared.Header.{Header}
 use Rattle.steps.specs.Memory.{Memory}
-use Rattle.grid.specs.declared.Opened.{Opened}
-use Rattle.grid.specs.Calls.{openOf}
+use Rattle.acts.specs.declared.Opened.{Opened}
+use Rattle.acts.specs.Calls.{openOf}
 use Rattle.play.specs.Play.{World, world, opened, after}
 use Rattle.play.specs.Inner.{listRecords, countOf, Listed, Short}
 use Rattle.play.proofs.ListLaws.{counted}

@@ -6,7 +6,7 @@ use mathlib.Core.List.{List, [], _++_, append-assoc, append-nil}
 use native.Mathlib.Omega.{arith}
 use native.Mathlib.Numerals.{add-one}
 use lib.ListN.{length, getD, length-append}
-use Rattle.grid.specs.declared.Answer.{Answer}
+use Rattle.acts.specs.declared.Answer.{Answer}
 use Rattle.batch.specs.Batch.{answerOf}
 use Rattle.text.specs.declared.Put.{Put}
 use Rattle.text.specs.Text.{decimal, answerLine, placed, putOf, endOf}

@@ -15,7 +15,7 @@ use Rattle.qhs.specs.declared.Record.{Record}
 use Rattle.qhs.specs.Qhs.{mostKind, recordAt}
 use Rattle.lanes.specs.declared.State.{State}
 use Rattle.steps.specs.Memory.{Memory}
-use Rattle.grid.specs.Calls.{Outcome}
+use Rattle.acts.specs.Calls.{Outcome}
 use Rattle.batch.specs.Batch.{entered, Batch, batch, entering, least, entries, batchOf, Told}
 use Rattle.batch.specs.Batch as Batches
 use Rattle.play.specs.Play.{cellOf, turnOf, World, world, turned, after}

@@ -7,8 +7,8 @@ use native.Mathlib.Omega.{arith}
 use lib.ListN.{length}
 use Rattle.qhs.specs.declared.Header.{Header}
 use Rattle.steps.specs.Memory.{Memory}
-use Rattle.grid.specs.declared.Opened.{Opened}
-use Rattle.grid.specs.Calls.{openOf}
+use Rattle.acts.specs.declared.Opened.{Opened}
+use Rattle.acts.specs.Calls.{openOf}
 use Rattle.text.specs.declared.Put.{Put}
 use Rattle.text.specs.declared.Put.the-variants as Put
 use Rattle.text.specs.Text.{sizesLine, placed, putOf, endOf}

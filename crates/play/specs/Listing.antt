@@ -6,7 +6,7 @@ use mathlib.Core.List.{List, [], _∷_, _++_}
 use Rattle.numbers.specs.Numbers.{segmentOf, offsetOf, sizeOf, log2, logIn}
 use Rattle.qhs.specs.Qhs.{numberAt, recordAt, each, readOf}
 use Rattle.lanes.specs.Ranges.{below}
-use Rattle.grid.specs.Calls.{openingOf, begunOf, verdictOf}
+use Rattle.acts.specs.Calls.{openingOf, begunOf, verdictOf}
 use Rattle.text.specs.Text.{word, decimalIn, decimal, answerLine, sizesLine}
 use Rattle.play.specs.Play.{turnOf, after, linesTo, scheduleText, outputOf}
 

@@ -14,9 +14,9 @@ use Rattle.qhs.specs.declared.Reading.the-variants as Reading
 use Rattle.qhs.specs.Qhs.{recordAt, readOf}
 use Rattle.lanes.specs.declared.State.{State}
 use Rattle.steps.specs.Memory.{Memory, memory}
-use Rattle.grid.specs.declared.Ask.{Ask}
-use Rattle.grid.specs.declared.Ask.the-variants as Ask
-use Rattle.grid.specs.Calls.{Outcome, outcome, openOf, beginOf, stepOf}
+use Rattle.acts.specs.declared.Ask.{Ask}
+use Rattle.acts.specs.declared.Ask.the-variants as Ask
+use Rattle.acts.specs.Calls.{Outcome, outcome, openOf, beginOf, stepOf}
 use Rattle.text.specs.declared.Put.the-variants as Put
 use Rattle.text.specs.Text.{answerLine, sizesLine, fileRefusedLine, splice, Placed, placed}
 

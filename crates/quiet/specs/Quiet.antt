@@ -18,7 +18,7 @@ use Rattle.steps.specs.declared.Next.{Next}
 use Rattle.steps.specs.declared.Next.the-variants as Next
 use Rattle.steps.specs.Memory.{Memory}
 use Rattle.steps.specs.Steps.{check, notWrittenRead, writtenRead}
-use Rattle.grid.specs.Calls.{namedIn}
+use Rattle.acts.specs.Calls.{namedIn}
 use Rattle.quiet.specs.declared.Quarter.{Quarter}
 use Rattle.quiet.specs.declared.Quarter.the-variants as Quarter
 use Rattle.quiet.specs.declared.Scan.{Scan}

@@ -2,7 +2,7 @@
 ghost use mathlib.Core.Path.{_≡_};
 ghost use Rattle.steps.specs.Memory.{memory};
 ghost use Rattle.quiet.specs.Quiet.{marksAt, seenIn, onward, lookedAt, quarterOf, readingAs, readingAt, unfit, atWork, scanOf};
-use grid::begins;
+use acts::begins;
 use lanes::Check;
 use lanes::State;
 use numbers::Cell;

@@ -1,8 +1,8 @@
 // The starred examples, run on the grid: what each says, and the shared word that each step touches.
+use acts::Answer;
+use acts::Ask;
+use acts::Stepped;
 use claims::Word;
-use grid::Answer;
-use grid::Ask;
-use grid::Stepped;
 use lanes::State;
 use libc::STDOUT_FILENO;
 use numbers::Cell;
@@ -86,7 +86,7 @@ fn traced(
     directory: &mut [u32],
     pool: &mut [u32],
 ) -> Stepped {
-    let at = grid::begins::lane_of(Process(q));
+    let at = acts::begins::lane_of(Process(q));
     let l = s.lanes[at];
     let o = l.op;
     say(b"  ");
@@ -172,7 +172,7 @@ fn refused_open(p: u32, m: u32) {
     say(b" m ");
     number(m as u64);
     let is = o.opening;
-    if let grid::Opening::Refused(r) = is {
+    if let acts::Opening::Refused(r) = is {
         named(b": refused", refusals::number(r) as u64);
     }
 }

@@ -6,7 +6,7 @@ use Prim.Native.Nat.{ℕ}
 use lib.Dec.{T, eqb}
 use Rattle.numbers.specs.Numbers.{logIn, log2, segmentOf, offsetOf, sizeOf, packOf, processOf, placeOf, fillOf}
 use Rattle.lanes.specs.Ranges.{below}
-use Rattle.grid.specs.Calls.{openingOf, begunOf, verdictOf}
+use Rattle.acts.specs.Calls.{openingOf, begunOf, verdictOf}
 use Rattle.starred.specs.Play.{Move, write, steps, Seen, wrote, leaves, inForce, handedOut, opening, brought, walk, after, play, sees}
 
 -- What an example says.

@@ -10,12 +10,12 @@ use Rattle.refusals.specs.Numbers.{numberOf}
 use Rattle.lanes.specs.declared.State.{State}
 use Rattle.lanes.specs.Ranges.{laneOf}
 use Rattle.steps.specs.Memory.{Memory, memory}
-use Rattle.grid.specs.declared.Ask.the-variants as Ask
-use Rattle.grid.specs.declared.Answer.{Answer}
-use Rattle.grid.specs.declared.Answer.the-variants as Answer
-use Rattle.grid.specs.declared.Opening.{Opening}
-use Rattle.grid.specs.declared.Opening.the-variants as Opening
-use Rattle.grid.specs.Calls.{openOf, beginOf, Outcome, stepOf}
+use Rattle.acts.specs.declared.Ask.the-variants as Ask
+use Rattle.acts.specs.declared.Answer.{Answer}
+use Rattle.acts.specs.declared.Answer.the-variants as Answer
+use Rattle.acts.specs.declared.Opening.{Opening}
+use Rattle.acts.specs.declared.Opening.the-variants as Opening
+use Rattle.acts.specs.Calls.{openOf, beginOf, Outcome, stepOf}
 
 -- A process begins a write, or takes a number of steps.
 pub data Move : Type 0 where

@@ -7,7 +7,7 @@ use borrow.Author.Tests.{lt-ltb, le-ltb}
 use Rattle.refusals.specs.declared.Refusal.the-variants as Refusal
 use Rattle.lanes.specs.declared.State.{State}
 use Rattle.steps.specs.Memory.{Memory}
-use Rattle.grid.specs.Calls.{lengthsFit}
+use Rattle.acts.specs.Calls.{lengthsFit}
 use Rattle.quiet.specs.declared.Quarter.{Quarter}
 use Rattle.quiet.specs.declared.Scan.{Scan}
 use Rattle.quiet.specs.Quiet.{unfit, atWork, readingAt, scanOf}

@@ -11,7 +11,7 @@ use Rattle.refusals.specs.Orders.{Rule, _gives_, orders, pick}
 use Rattle.refusals.specs.declared.Refusal.the-variants as Refusal
 use Rattle.lanes.specs.declared.State.{State}
 use Rattle.steps.specs.Memory.{Memory}
-use Rattle.grid.specs.Calls.{lengthsFit}
+use Rattle.acts.specs.Calls.{lengthsFit}
 use Rattle.quiet.specs.declared.Quarter.{Quarter}
 use Rattle.quiet.specs.declared.Quarter.the-variants as Quarter
 use Rattle.quiet.specs.Quiet.{unfit, atWork, readingAt, scanOf}

@@ -5,7 +5,7 @@ ghost use Rattle.steps.specs.Memory.{memory};
 ghost use Rattle.quiet.specs.declared.Quarter.the-variants as Quarter;
 ghost use Rattle.summary.specs.Summary.{greater, outside, fourFrom, quarters, writtenAmong, summaryOf};
 ghost use Rattle.summary.specs.Inner.{Few, Counts, Mean, hourFrom, summed, summaryAs, four};
-use grid::opens;
+use acts::opens;
 use lanes::State;
 use numbers::Cell;
 use quiet::Quarter;

@@ -9,8 +9,8 @@ use lib.ListN.{length, length-append}
 use lib.Seq.{take-all}
 use Rattle.refusals.specs.Numbers.{numberOf}
 use Rattle.refusals.specs.declared.Refusal.{Refusal}
-use Rattle.grid.specs.declared.Answer.{Answer}
-use Rattle.grid.specs.declared.Answer.the-variants as Answer
+use Rattle.acts.specs.declared.Answer.{Answer}
+use Rattle.acts.specs.declared.Answer.the-variants as Answer
 use Rattle.text.specs.Text.{word, newline, decimal, bit, two, three, saying, answerLine, sizesLine, fileRefusedLine, refusedLine, Placed, putOf}
 use Rattle.text.specs.Laws.{decimal-short}
 use Rattle.text.specs.declared.line.Line.{Line}

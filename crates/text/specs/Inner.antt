@@ -4,7 +4,7 @@ use Prim.Native.Nat.{ℕ, _+_, _≤_}
 use mathlib.Core.Path.{_≡_}
 use mathlib.Core.List.{List, _++_}
 use lib.ListN.{length, take}
-use Rattle.grid.specs.declared.Answer.{Answer}
+use Rattle.acts.specs.declared.Answer.{Answer}
 use Rattle.text.specs.declared.line.Line.{Line}
 use Rattle.text.specs.Text.{decimal, saying, answerLine}
 

@@ -10,8 +10,8 @@ use lib.ListN.{length, take, drop}
 use Rattle.refusals.specs.Numbers.{numberOf}
 use Rattle.refusals.specs.Orders.{pick}
 use Rattle.refusals.specs.declared.Refusal.{Refusal}
-use Rattle.grid.specs.declared.Answer.{Answer}
-use Rattle.grid.specs.declared.Answer.the-variants as Answer
+use Rattle.acts.specs.declared.Answer.{Answer}
+use Rattle.acts.specs.declared.Answer.the-variants as Answer
 use Rattle.text.specs.declared.Put.{Put}
 use Rattle.text.specs.declared.Put.the-variants as Put
 

@@ -8,7 +8,7 @@ ghost use Rattle.text.specs.Inner.{room, soFar};
 mod line;
 mod lines;
 
-use grid::Answer;
+use acts::Answer;
 use line::Line;
 use refusals::Refusal;
 

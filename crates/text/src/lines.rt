@@ -5,7 +5,7 @@ ghost use lib.ListN.{length};
 ghost use Rattle.text.specs.Inner.{room, Grown, Made, Said, Answered};
 use super::line;
 use super::line::Line;
-use grid::Answer;
+use acts::Answer;
 use refusals::Refusal;
 
 fn two(l: Line, v: u64, n: u64) -> Line

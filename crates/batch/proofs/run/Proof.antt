@@ -4,8 +4,8 @@ use Prim.Native.Nat.{_-_}
 use native.Mathlib.Omega.{arith}
 use mathlib.Core.Path.{refl, ap, _∙_}
 use borrow.Author.Needs.{needs}
-use Rattle.grid.specs.Inner.{laneAt}
-use Rattle.grid.proofs.StateLaws.{judged-at}
+use Rattle.acts.specs.Inner.{laneAt}
+use Rattle.acts.proofs.StateLaws.{judged-at}
 use Rattle.batch.proofs.BatchLaws.{Going, going-start, going-more, going-end, going-kept, entries-are}
 use Rattle.batch.proofs.run.Statement.{statement}
 use Rattle.batch.proofs.run.Tie as tie

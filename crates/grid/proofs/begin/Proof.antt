@@ -5,7 +5,7 @@ use Prim.Native.Nat.{_≤_, _-_}
 use native.Mathlib.Omega.{arith}
 use borrow.Author.Needs.{needs}
 use Rattle.lanes.specs.Scan.{Passed, passed-none, passed-more, few-lanes}
-use Rattle.grid.proofs.StateLaws.{loop-end, begun-is}
+use Rattle.acts.proofs.StateLaws.{loop-end, begun-is}
 use Rattle.grid.proofs.begin.Statement.{statement}
 use Rattle.grid.proofs.begin.Tie as tie
 

@@ -1,6 +1,6 @@
 -- `grid::open` meets its contract.
 -- Assumes nothing.
-use Rattle.grid.proofs.OpenLaws.{is-open, is-refused}
+use Rattle.acts.proofs.OpenLaws.{is-open, is-refused}
 use borrow.Author.Needs.{needs}
 use Rattle.grid.proofs.open.Statement.{statement}
 use Rattle.grid.proofs.open.Tie as tie

@@ -4,9 +4,9 @@ use Prim.Native.Nat.{_≤_, _-_}
 use native.Mathlib.Omega.{arith}
 use mathlib.Core.Path.{refl, sym, ap, _∙_}
 use borrow.Author.Needs.{needs}
-use Rattle.grid.specs.Inner.{laneAt}
+use Rattle.acts.specs.Inner.{laneAt}
 use Rattle.lanes.specs.Scan.{Passed, passed-none, passed-more, few-lanes}
-use Rattle.grid.proofs.StateLaws.{loop-end, judged-at, step-is, step-kept}
+use Rattle.acts.proofs.StateLaws.{loop-end, judged-at, step-is, step-kept}
 use Rattle.grid.proofs.step.Statement.{statement}
 use Rattle.grid.proofs.step.Tie as tie
 
