@@ -1,12 +1,11 @@
 -- Each case of a step that is judged and carried out, as a law of its definition.
 -- Assumes nothing.
 use mathlib.Core.Path.{_≡_, refl, sym, ap, _∙_}
-use mathlib.Core.Bool.{Bool, true, false, not, _&&_}
-use mathlib.Core.List.{List}
-use Prim.Native.Nat.{ℕ, _+_, _<_, _≤_}
+use mathlib.Core.Bool.{Bool, true, false, not}
+use Prim.Native.Nat.{ℕ, _<_, _≤_}
 use native.Mathlib.Omega.{arith}
 use lib.Dec.{leb}
-use borrow.Author.Tests.{lt-ltb, le-ltb, le-leb, lt-leb}
+use borrow.Author.Tests.{ltb-true, not-false, lt-ltb, le-ltb, le-leb, lt-leb}
 use Rattle.numbers.specs.Numbers.{mostSegments, mostSteps, mostMarks, poolWords}
 use Rattle.numbers.specs.declared.Process.{Process}
 use Rattle.refusals.specs.declared.Refusal.{Refusal}
@@ -33,7 +32,6 @@ use Rattle.acts.specs.declared.Verdict.{Verdict}
 use Rattle.acts.specs.declared.Verdict.the-variants as Verdict
 use Rattle.acts.specs.Calls.{lengthsFit, namedIn, namedAt, named, advance, answerOf, refusedAs, numbersFit, decided, verdictOf, effect, actOf}
 use Rattle.acts.specs.Inner.{Judged, changeFits, stageNew, opNew, nextFits, newFits, Told, movedTo}
-use Rattle.acts.proofs.BeginLaws.{not-false}
 use Rattle.acts.proofs.NewLaws.{same-steps, told}
 
 -- arms of matches: what is known of the constructor is known of the value
@@ -167,7 +165,7 @@ moved-fits fits z q l seen mem v ch nx j e h = by fits refl (lib.Dec.ltb q (z .p
     none x k = absurd (let y : _≡_ {A = ℕ} 0 1 = cc in omega arith)
 
     by : (b : Bool) → fits ≡ b → (c : Bool) → lib.Dec.ltb q (z .p) ≡ c → (d : Bool) → lengthsFit (z .p) (z .m) mem ≡ d → l .steps ≤ mostSteps
-    by true f true g d i = lane-ok (z .p) (z .m) l (j .lane f (borrow.Author.Tests.ltb-true q (z .p) g)) .steps
+    by true f true g d i = lane-ok (z .p) (z .m) l (j .lane f (ltb-true q (z .p) g)) .steps
     by true f false g true i = none Refusal.NoSuchProcess (moves ∙ simp (f, i, g))
     by true f false g false i = none Refusal.OtherLengths (moves ∙ simp (f, i))
     by false f c g d i = none Refusal.OutOfRange (moves ∙ simp f)

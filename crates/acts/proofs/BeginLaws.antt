@@ -1,10 +1,9 @@
 -- Each case of a beginning, as a law of its definition.
 -- Assumes nothing.
-use mathlib.Core.Path.{_≡_, refl, sym, ap, _∙_}
-use mathlib.Core.Bool.{Bool, true, false, not, _&&_}
+use mathlib.Core.Path.{_≡_, _∙_}
+use mathlib.Core.Bool.{Bool, true, false, not}
 use Prim.Native.Nat.{ℕ, _<_, _≤_}
 use borrow.Author.Tests.{lt-ltb, le-ltb}
-use native.Mathlib.Omega.{arith}
 use Rattle.numbers.specs.Numbers.{mostProcesses}
 use Rattle.numbers.specs.declared.Cell.{Cell}
 use Rattle.refusals.specs.Orders.{pick}
@@ -17,14 +16,6 @@ use Rattle.acts.specs.declared.Acted.{Acted}
 use Rattle.acts.specs.declared.Answer.the-variants as Answer
 use Rattle.acts.specs.Calls.{cellOf, opOf, refusedAs, begunOf}
 use Rattle.acts.specs.Inner.{laneAt}
-
-pub not-true : (b : Bool) → not b ≡ true → b ≡ false
-not-true true h = let z : false ≡ true = h in cc
-not-true false h = refl
-
-pub not-false : (b : Bool) → not b ≡ false → b ≡ true
-not-false true h = refl
-not-false false h = let z : true ≡ false = h in cc
 
 pub lane-low : (q : ℕ) → q < mostProcesses → q ≡ laneAt q
 lane-low q h = simp (lt-ltb _ _ h)

@@ -1,16 +1,17 @@
 -- What a step leaves of its lane's ranges: only the numbers that `newFits` tests can leave theirs.
 -- Assumes nothing.
-use mathlib.Core.Path.{_≡_, refl, sym, ap, _∙_}
+use mathlib.Core.Path.{_≡_, refl, sym, _∙_}
 use mathlib.Core.Bool.{Bool, true, false, _&&_}
 use mathlib.Core.List.{List}
-use Prim.Native.Nat.{ℕ, _+_, _<_, _≤_}
+use Prim.Native.Nat.{ℕ, _+_, _≤_}
 use native.Mathlib.Omega.{arith}
 use lib.Dec.{ltb, leb, eqb}
-use lib.ListN.{getD, length}
-use borrow.Author.Tests.{lt-ltb, le-ltb, le-leb, lt-leb, ltb-true, ltb-false}
-use Rattle.numbers.specs.Numbers.{mostSegments, mostSteps, mostMarks, poolWords, processOf, placeOf, segmentOf, offsetOf, packOf, tombstone}
+use lib.ListN.{getD}
+use borrow.Author.Tests.{le-leb, lt-leb, ltb-true, ltb-false}
+use Rattle.numbers.specs.Numbers.{mostSegments, mostSteps, mostMarks, poolWords, processOf, placeOf, segmentOf, packOf, tombstone}
 use Rattle.numbers.specs.declared.Cell.{Cell}
 use Rattle.numbers.specs.declared.Place.{Place}
+use Rattle.numbers.specs.BelowLaws.{and-left, and-right}
 use Rattle.refusals.specs.Orders.{pick}
 use Rattle.lanes.specs.declared.Check.{Check}
 use Rattle.lanes.specs.declared.Check.the-variants as Check
@@ -19,8 +20,8 @@ use Rattle.lanes.specs.declared.Stage.the-variants as Stage
 use Rattle.lanes.specs.declared.Op.{Op}
 use Rattle.lanes.specs.declared.Op.the-variants as Op
 use Rattle.lanes.specs.declared.Lane.{Lane}
-use Rattle.lanes.specs.Ranges.{placeFits, linkFits, checkFits, stageFits, opFits, laneFits, sizesFit}
-use Rattle.lanes.specs.Laws.{and-left, and-right, sized, lane-ok}
+use Rattle.lanes.specs.Ranges.{placeFits, checkFits, stageFits, opFits, laneFits, sizesFit}
+use Rattle.lanes.specs.Laws.{sized, lane-ok}
 use Rattle.steps.specs.declared.Sizes.{Sizes}
 use Rattle.steps.specs.declared.Change.{Change}
 use Rattle.steps.specs.declared.Change.the-variants as Change
@@ -35,8 +36,8 @@ use Rattle.steps.specs.declared.Turn.the-variants as Turn
 use Rattle.steps.specs.Memory.{Memory}
 use Rattle.steps.specs.Steps as Steps
 use Rattle.steps.specs.Changes.{laneAfter, topAfter}
-use Rattle.acts.specs.Calls.{advance, numbersFit}
-use Rattle.acts.specs.Inner.{changeFits, stageNew, opNew, nextFits, newFits, Told}
+use Rattle.acts.specs.Calls.{numbersFit}
+use Rattle.acts.specs.Inner.{changeFits, stageNew, opNew, newFits, Told}
 
 -- ---- what a check goes on with is in its ranges
 

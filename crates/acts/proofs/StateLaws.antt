@@ -1,15 +1,16 @@
 -- From the lanes that begin and step look at, one by one, to the state: the loop, the lane in use, and the call's outcome.
 -- Assumes nothing.
-use mathlib.Core.Path.{_≡_, refl, sym, ap, _∙_, subst}
-use mathlib.Core.Bool.{Bool, true, false, not, _&&_}
+use mathlib.Core.Path.{_≡_, refl, sym, ap, _∙_}
+use mathlib.Core.Bool.{Bool, true, false, not}
 use mathlib.Core.List.{List}
-use Prim.Native.Nat.{ℕ, zero, _+_, _<_, _≤_}
+use Prim.Native.Nat.{ℕ, _<_, _≤_}
 use native.Mathlib.Omega.{arith}
-use lib.Dec.{ltb, leb}
-use lib.ListN.{getD, set, length}
-use lib.Seq.{set-getD, set-out}
-use borrow.Author.Tests.{lt-ltb, le-ltb, ltb-true, ltb-false}
-use Rattle.numbers.specs.Numbers.{mostProcesses, processOf, placeOf, mostMarks}
+use lib.Dec.{ltb}
+use lib.ListN.{set}
+use lib.Seq.{set-getD}
+use borrow.Author.Tests.{lt-ltb, ltb-true}
+use Rattle.numbers.specs.Numbers.{mostProcesses, mostMarks}
+use Rattle.numbers.specs.BelowLaws.{and-right}
 use Rattle.refusals.specs.Orders.{pick}
 use Rattle.refusals.specs.declared.Refusal.{Refusal}
 use Rattle.refusals.specs.declared.Refusal.the-variants as Refusal
@@ -22,7 +23,7 @@ use Rattle.lanes.specs.declared.Op.the-variants as Op
 use Rattle.lanes.specs.declared.Lane.{Lane}
 use Rattle.lanes.specs.declared.State.{State}
 use Rattle.lanes.specs.Ranges.{rest, laneOf, idle, checkFits, stageFits, opFits, sizesFit, stateFits}
-use Rattle.lanes.specs.Laws.{and-right, sized, lane-ok, sizes-of, lane-of}
+use Rattle.lanes.specs.Laws.{sized, lane-ok, sizes-of, lane-of}
 use Rattle.lanes.specs.Scan.{Passed, passed-all}
 use Rattle.steps.specs.declared.Next.{Next}
 use Rattle.steps.specs.declared.Next.the-variants as Next
@@ -34,7 +35,7 @@ use Rattle.acts.specs.declared.Acted.{Acted}
 use Rattle.acts.specs.declared.Verdict.{Verdict}
 use Rattle.acts.specs.declared.Verdict.the-variants as Verdict
 use Rattle.acts.specs.declared.Stepped.{Stepped}
-use Rattle.acts.specs.Calls.{lengthsFit, cellOf, opOf, refusedAs, answerOf, begunOf, beginOf, verdictOf, settled, sizesOf, namedIn, namedAt, named, seenBy, Effect, effect, effectOf, actOf, Outcome, outcome, stepOf, steppedAs, outcomeAs}
+use Rattle.acts.specs.Calls.{lengthsFit, cellOf, opOf, refusedAs, answerOf, begunOf, beginOf, verdictOf, sizesOf, namedIn, namedAt, named, seenBy, Effect, effect, effectOf, actOf, outcome, stepOf, steppedAs, outcomeAs}
 use Rattle.acts.specs.Inner.{laneAt, changes, Judged}
 
 -- past the last lane in use, the state has been looked at

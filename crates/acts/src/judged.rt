@@ -1,6 +1,5 @@
 // A step judged and carried out: its refusals, the lane and the top after it, and its answer.
 ghost use mathlib.Core.Path.{_≡_};
-ghost use mathlib.Core.Bool.{true};
 ghost use Prim.Native.Nat.{_≤_};
 ghost use Rattle.numbers.specs.Numbers.{mostSteps};
 ghost use Rattle.steps.specs.Memory.{memory};

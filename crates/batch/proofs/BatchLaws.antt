@@ -1,22 +1,21 @@
 -- Each case of an entry, and the loop over the entries, as laws of their definitions.
 -- Assumes nothing.
-use Prim.Native.Nat.{ℕ, _+_, _<_, _≤_}
+use Prim.Native.Nat.{ℕ, _+_, _<_, _≤_, min}
 use mathlib.Core.Path.{_≡_, refl, sym, ap, _∙_}
 use mathlib.Core.Bool.{Bool, true, false}
 use mathlib.Core.List.{List}
 use native.Mathlib.Decide.{ℕ-discrete}
 use native.Mathlib.Omega.{arith}
 use native.Mathlib.Numerals.{add-one}
-use lib.Dec.{leb, ltb}
+use lib.Dec.{leb}
 use lib.ListN.{length, getD, set, length-set}
 use lib.Seq.{getD-set-same, getD-set-other}
-use borrow.Author.Tests.{lt-ltb, le-ltb, lt-leb, le-leb, eq-eqb, ne-eqb, ltb-true, ltb-false}
+use borrow.Author.Tests.{lt-leb, le-leb, eq-eqb, ne-eqb}
 use Rattle.numbers.specs.declared.Cell.{Cell}
 use Rattle.refusals.specs.Orders.{pick}
 use Rattle.lanes.specs.declared.Lane.{Lane}
 use Rattle.lanes.specs.declared.State.{State}
-use Rattle.lanes.specs.Ranges.{laneOf, sizesFit, stateFits}
-use Rattle.lanes.specs.Scan.{Passed, passed-all}
+use Rattle.lanes.specs.Ranges.{laneOf, stateFits}
 use Rattle.steps.specs.declared.Sizes.{Sizes}
 use Rattle.steps.specs.Memory.{Memory, memory}
 use Rattle.acts.specs.declared.Acted.{Acted}
@@ -26,14 +25,8 @@ use Rattle.acts.specs.declared.Ask.the-variants as Ask
 use Rattle.acts.specs.Calls.{begunOf, effect, actOf, sizesOf, steppedAs, named, Effect, Outcome, outcome, beginOf, verdictOf, stepOf}
 use Rattle.acts.specs.Inner.{laneAt, changes}
 use Rattle.acts.proofs.StateLaws.{begun-is, begun-kept, step-is, moved-kept}
-use Rattle.batch.specs.Batch.{beginning, askOf, entered, codeOf, answerOf, Batch, batch, entering, onward, after, answerAt, Told, least, entries, batchOf, entryOf}
+use Rattle.batch.specs.Batch.{beginning, askOf, entered, codeOf, answerOf, Batch, batch, entering, onward, after, answerAt, Told, entries, batchOf, entryOf}
 use Rattle.batch.specs.Kept.{begin-keeps, step-keeps}
-
-pub first-least : (a b : ℕ) → a < b → a ≡ least a b
-first-least a b h = simp (lt-ltb _ _ h)
-
-pub second-least : (a b : ℕ) → b ≤ a → b ≡ least a b
-second-least a b h = simp (le-ltb _ _ h)
 
 pub not-beginning : (kind : ℕ) → kind < 1 → false ≡ beginning kind
 not-beginning kind h = simp (lt-leb _ _ h)
@@ -57,13 +50,6 @@ module _ (fits : Bool) (z : Sizes) (q : ℕ) (l : Lane) (seen kind : ℕ) (i : C
 
   pub entry-step : (mem′ : Memory) → r ≡ false → effect b mem′ ≡ actOf fits z q l seen mem → effect b mem′ ≡ entryOf fits z q l seen kind i v mem
   entry-step mem′ h g = simp (sym e ∙ h) g
-
-pub fits-end : (s : State) (b : Bool) (end i : ℕ) (fits : Bool) → b ≡ sizesFit (s .p) (s .m) (s .top) → end ≡ pick b (s .p) 0 → i ≤ end → end ≤ i
-    → Passed s i fits → fits ≡ stateFits s
-fits-end s b end i fits e f low high h = passed-all s b i fits e is-p h
-  where
-    is-p : b ≡ true → i ≡ s .p
-    is-p x = let k : end ≡ s .p = f ∙ rw x refl in omega arith
 
 -- an entry on the lane at k is the entry on the state
 module _ (s : State) (q k : ℕ) (at : k ≡ laneAt q) (j : ℕ) (from : j ≡ laneAt (named (laneOf s k .op))) (fits : Bool) (e : fits ≡ stateFits s)
@@ -140,14 +126,6 @@ module _ (kinds processes cells values : List ℕ) (s : State) (mem : Memory) (a
       by (yes x) = rw x (ap answerOf (getD-set-same words i code 0 low) ∙ e)
       by (no x) = ap answerOf (getD-set-other words i k code 0 x) ∙ h k (omega (arith, here, x))
 
--- the least of the lengths is no more than any
-least-low : (a b : ℕ) → (least a b ≤ a) × (least a b ≤ b)
-least-low a b = by (ltb a b) refl
-  where
-    by : (x : Bool) → ltb a b ≡ x → (pick x a b ≤ a) × (pick x a b ≤ b)
-    by true h = let k = ltb-true a b h in (omega arith, omega arith)
-    by false h = let k = ltb-false a b h in (omega arith, omega arith)
-
 pub record Few (n : ℕ) (kinds processes cells values answers : List ℕ) : Type 0 where
   pub in-kinds : n ≤ length kinds
   pub in-processes : n ≤ length processes
@@ -157,10 +135,6 @@ pub record Few (n : ℕ) (kinds processes cells values answers : List ℕ) : Typ
 
 pub few-entries : (kinds processes cells values answers : List ℕ) → Few (entries kinds processes cells values answers) kinds processes cells values answers
 few-entries kinds processes cells values answers =
-    let a = least-low (length kinds) (length processes) in
-    let b = least-low (length cells) (length values) in
-    let c = least-low (least (length kinds) (length processes)) (least (length cells) (length values)) in
-    let d = least-low (least (least (length kinds) (length processes)) (least (length cells) (length values))) (length answers) in
     record { in-kinds = omega arith; in-processes = omega arith; in-cells = omega arith; in-values = omega arith; in-answers = omega arith }
 
 -- what the loop keeps
@@ -254,6 +228,6 @@ module _ (kinds processes cells values answers₀ readings₀ links₀ directory
         let e : i ≡ entries kinds processes cells values answers₀ = let a = G .at in let b = G .number in omega arith in
         (G .done ∙ ap (after kinds processes cells values (batch s (memory readings₀ links₀ directory₀ pool₀) answers₀)) e, rw (← e) (G .back))
 
-pub entries-are : (kinds processes cells values answers : List ℕ) (a b c n : ℕ) → a ≡ least (length kinds) (length processes)
-    → b ≡ least (length cells) (length values) → c ≡ least a b → n ≡ least c (length answers) → n ≡ entries kinds processes cells values answers
+pub entries-are : (kinds processes cells values answers : List ℕ) (a b c n : ℕ) → a ≡ min (length kinds) (length processes)
+    → b ≡ min (length cells) (length values) → c ≡ min a b → n ≡ min c (length answers) → n ≡ entries kinds processes cells values answers
 entries-are kinds processes cells values answers a b c n e f g h = h ∙ rw (g, e, f)

@@ -1,10 +1,10 @@
 -- A list of begins and steps on one grid: the fold of the definitions of begin and step.
 -- Assumes nothing.
-use Prim.Native.Nat.{ℕ, zero, suc, _+_, _*_, _/_, _%_, _<_}
+use Prim.Native.Nat.{ℕ, zero, suc, _+_, _*_, _/_, _%_, _<_, min}
 use mathlib.Core.Path.{_≡_}
 use mathlib.Core.Bool.{Bool, true, false, _&&_}
 use mathlib.Core.List.{List}
-use lib.Dec.{ltb, leb, eqb}
+use lib.Dec.{leb, eqb}
 use lib.ListN.{length, getD, set}
 use Rattle.numbers.specs.declared.Cell.{Cell}
 use Rattle.refusals.specs.Numbers.{numberOf, refusalOf}
@@ -94,12 +94,9 @@ module _ (kinds processes cells values : List ℕ) where
   Told b n answers = (k : ℕ) → k < n → answerOf (getD answers k 0) ≡ answerAt b k
 
 -- As many entries as the shortest of the lists has.
-abbrev pub least : ℕ → ℕ → ℕ
-least a b = pick (ltb a b) a b
-
 abbrev pub entries : List ℕ → List ℕ → List ℕ → List ℕ → List ℕ → ℕ
 entries kinds processes cells values answers =
-    least (least (least (length kinds) (length processes)) (least (length cells) (length values))) (length answers)
+    min (min (min (length kinds) (length processes)) (min (length cells) (length values))) (length answers)
 
 unfoldable pub batchOf : State → Memory → List ℕ → List ℕ → List ℕ → List ℕ → List ℕ → Batch
 batchOf s mem answers kinds processes cells values =

@@ -2,23 +2,19 @@
 -- Assumes nothing.
 use Prim.Native.Nat.{ℕ, _<_}
 use mathlib.Core.Path.{_≡_, refl, sym, ap, _∙_}
-use mathlib.Core.Bool.{Bool, true, false, not, _&&_}
-use mathlib.Core.List.{List}
-use native.Mathlib.Decide.{ℕ-discrete}
+use mathlib.Core.Bool.{Bool, true, false, not}
 use native.Mathlib.Omega.{arith}
 use lib.Dec.{leb, ltb}
-use lib.ListN.{length, getD, set}
-use lib.Seq.{getD-set-same, getD-set-other, set-out, set-getD}
-use borrow.Author.Tests.{le-leb, lt-ltb, ltb-true, ltb-false, leb-true}
-use Rattle.numbers.specs.Numbers.{mostProcesses, mostCells, poolWords, mostMarks, mostSegments, mostSteps}
-use Rattle.numbers.specs.declared.Cell.{Cell}
+use borrow.Author.Tests.{le-leb, lt-ltb, ltb-true}
+use Rattle.numbers.specs.Numbers.{poolWords, mostMarks, mostSegments}
+use Rattle.numbers.specs.BelowLaws.{and-left, and-right}
 use Rattle.refusals.specs.Orders.{pick}
 use Rattle.refusals.specs.declared.Refusal.{Refusal}
 use Rattle.refusals.specs.declared.Refusal.the-variants as Refusal
 use Rattle.lanes.specs.declared.Lane.{Lane}
 use Rattle.lanes.specs.declared.State.{State}
-use Rattle.lanes.specs.Ranges.{rest, laneOf, idle, below, laneFits, sizesFit, stateFits}
-use Rattle.lanes.specs.Laws.{below-all, and-left, and-right, sized, lane-ok, sizes-of, lane-of}
+use Rattle.lanes.specs.Ranges.{laneOf, idle, laneFits, stateFits}
+use Rattle.lanes.specs.Laws.{sized, lane-ok, sizes-of, lane-of}
 use Rattle.steps.specs.declared.Sizes.{Sizes}
 use Rattle.steps.specs.declared.Change.{Change}
 use Rattle.steps.specs.declared.Next.{Next}
@@ -33,32 +29,8 @@ use Rattle.acts.specs.declared.Acted.{Acted}
 use Rattle.acts.specs.declared.Answer.the-variants as Answer
 use Rattle.acts.specs.declared.Verdict.{Verdict}
 use Rattle.acts.specs.declared.Verdict.the-variants as Verdict
+use Rattle.acts.specs.Settled.{put-back, settled-fits}
 use Rattle.acts.specs.Calls.{settled, refusedAs, begunOf, beginOf, cellOf, opOf, advance, numbersFit, decided, verdictOf, effectOf, outcomeAs, sizesOf, seenBy, lengthsFit, stepOf}
-
--- a lane put back
-put-back : (s : State) (q : ℕ) → settled s q (laneOf s q) (s .top) ≡ s
-put-back s q = ap (λ (l : List Lane). record { p = s .p; m = s .m; first = s .first; step = s .step; top = s .top; lanes = l }) (set-getD (s .lanes) q rest)
-
--- a new lane and a new top within their ranges keep the state in its own
-settled-fits : (s : State) (q : ℕ) (l : Lane) (t : ℕ) → stateFits s ≡ true → laneFits (s .p) (s .m) l ≡ true → leb t (poolWords (s .p) (s .m)) ≡ true
-    → stateFits (settled s q l t) ≡ true
-settled-fits s q l t fine here top-low = rw (sizes, lanes)
-  where
-    sizes : sizesFit (s .p) (s .m) t ≡ true
-    sizes =
-        let z = sized (s .p) (s .m) (s .top) (sizes-of s fine) in
-        rw (le-leb 1 (s .p) (z .p-low), le-leb (s .p) mostProcesses (z .p-high), le-leb 1 (s .m) (z .m-low), le-leb (s .m) mostCells (z .m-high)) top-low
-
-    own : q < s .p → (b : Bool) → ltb q (length (s .lanes)) ≡ b → laneFits (s .p) (s .m) (getD (set (s .lanes) q l) q rest) ≡ true
-    own k true h = ap (laneFits (s .p) (s .m)) (getD-set-same (s .lanes) q l rest (ltb-true _ _ h)) ∙ here
-    own k false h = ap (λ (x : List Lane). laneFits (s .p) (s .m) (getD x q rest)) (set-out (s .lanes) q l (ltb-false _ _ h)) ∙ lane-of s fine q k
-
-    at : (r : ℕ) → r < s .p → Dec (r ≡ q) → laneFits (s .p) (s .m) (laneOf (settled s q l t) r) ≡ true
-    at r k (yes e) = rw e (own (rw (← e) k) (ltb q (length (s .lanes))) refl)
-    at r k (no e) = ap (laneFits (s .p) (s .m)) (getD-set-other (s .lanes) q r l rest e) ∙ lane-of s fine r k
-
-    lanes : below (s .p) (λ (r : ℕ). laneFits (s .p) (s .m) (laneOf (settled s q l t) r)) ≡ true
-    lanes = below-all (s .p) (λ (r : ℕ). laneFits (s .p) (s .m) (laneOf (settled s q l t) r)) (λ r k. at r k (ℕ-discrete r q))
 
 top-fits : (s : State) → stateFits s ≡ true → leb (s .top) (poolWords (s .p) (s .m)) ≡ true
 top-fits s fine = le-leb _ _ (sized (s .p) (s .m) (s .top) (sizes-of s fine) .top-high)

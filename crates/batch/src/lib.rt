@@ -6,7 +6,7 @@ ghost use Rattle.lanes.specs.Ranges.{stateFits};
 ghost use Rattle.steps.specs.Memory.{memory};
 ghost use Rattle.acts.specs.Calls.{effect};
 ghost use Rattle.acts.specs.Inner.{Judged};
-ghost use Rattle.batch.specs.Batch.{least, bit, countOf, codeWith, codeOf, answerOf, beginning, askOf, entryOf, batch, entries, batchOf, Told};
+ghost use Rattle.batch.specs.Batch.{bit, countOf, codeWith, codeOf, answerOf, beginning, askOf, entryOf, batch, entries, batchOf, Told};
 use acts::Acted;
 use acts::Answer;
 use acts::Ask;
@@ -29,12 +29,6 @@ fn state_fits(s: State) -> bool
         i = i + 1;
     }
     fits
-}
-
-fn least(a: usize, b: usize) -> usize
-    ensures { λ r. ⌜ r ≡ least a b ⌝ }
-{
-    if a < b { a } else { b }
 }
 
 fn code(kind: u64, count: u32, value: u32) -> u64
@@ -157,10 +151,10 @@ pub fn run(
 {
     let mut t = s;
     let fits = state_fits(s);
-    let n = least(
-        least(
-            least(kinds.len(), processes.len()),
-            least(cells.len(), values.len()),
+    let n = numbers::least(
+        numbers::least(
+            numbers::least(kinds.len(), processes.len()),
+            numbers::least(cells.len(), values.len()),
         ),
         answers.len(),
     );

@@ -1,5 +1,4 @@
 // A vector's memories: a length, a fill and exceptions, put into lent words.
-ghost use Prim.Native.Nat.{_≤_};
 use super::vector;
 use super::vector::Fault;
 use super::vector::LIMIT32;
@@ -32,12 +31,6 @@ pub fn numbers_of(l: Lending) -> Lent {
         },
         Lending::Lent(n) => n,
     }
-}
-
-pub fn least(a: usize, b: usize) -> usize
-    ensures { λ r. ⌜ (r ≤ a) × (r ≤ b) ⌝ }
-{
-    if a < b { a } else { b }
 }
 
 fn over(w: u64, narrow: bool) -> bool {
@@ -78,7 +71,7 @@ fn lent_at(input: &[u64], base: usize, most: usize, narrow: bool) -> Lending {
 // The exceptions' indices rise below the length, and their words fit.
 fn exceptions_seen(input: &[u64], base: usize, l: Lent, narrow: bool) -> Seen {
     let len = l.len as u64;
-    let end = least(l.exceptions, input.len() / 2);
+    let end = numbers::least(l.exceptions, input.len() / 2);
     let mut low: u64 = 0;
     let mut k: usize = 0;
     while k < end {
@@ -137,7 +130,7 @@ pub fn lent_first(input: &[u64], base: usize) -> Lending {
 // ---- words of 32 bits
 
 fn fill32(memory: &mut [u32], len: usize, w: u32) {
-    let end = least(len, memory.len());
+    let end = numbers::least(len, memory.len());
     let mut i: usize = 0;
     while i < end {
         memory[i] = w;
@@ -153,7 +146,7 @@ fn set32(memory: &mut [u32], i: usize, w: u32) {
 
 fn place32(input: &[u64], base: usize, l: Lent, memory: &mut [u32]) {
     fill32(memory, l.len, low32(l.fill));
-    let end = least(l.exceptions, input.len() / 2);
+    let end = numbers::least(l.exceptions, input.len() / 2);
     let mut k: usize = 0;
     while k < end {
         let i = words::at(input, base, 3 + 2 * k) as usize;
@@ -181,7 +174,7 @@ pub fn lend32(input: &[u64], before: Lending, memory: &mut [u32]) -> Lending {
 // ---- words of 64 bits
 
 fn fill64(memory: &mut [u64], len: usize, w: u64) {
-    let end = least(len, memory.len());
+    let end = numbers::least(len, memory.len());
     let mut i: usize = 0;
     while i < end {
         memory[i] = w;
@@ -197,7 +190,7 @@ fn set64(memory: &mut [u64], i: usize, w: u64) {
 
 fn place64(input: &[u64], base: usize, l: Lent, memory: &mut [u64]) {
     fill64(memory, l.len, l.fill);
-    let end = least(l.exceptions, input.len() / 2);
+    let end = numbers::least(l.exceptions, input.len() / 2);
     let mut k: usize = 0;
     while k < end {
         let i = words::at(input, base, 3 + 2 * k) as usize;

@@ -1,6 +1,5 @@
 // The buffer that the planners' text is lent: its length and its fill, as the vector has them.
 ghost use Prim.Native.Nat.{_≤_};
-use super::memories::least;
 use super::vector::PAGE;
 use super::vector::TEXT;
 use super::words;
@@ -11,7 +10,7 @@ pub fn room(input: &[u64], base: usize) -> usize
     ensures { λ r. ⌜ r ≤ 4096 ⌝ }
 {
     if words::at(input, base, 0) == TEXT {
-        least(words::at(input, base, 1) as usize, PAGE)
+        numbers::least(words::at(input, base, 1) as usize, PAGE)
     } else {
         0
     }

@@ -5,7 +5,6 @@ use super::four::Filled;
 use super::four::Memories;
 use super::make;
 use super::make::Made;
-use super::memories::least;
 use super::out;
 use super::page;
 use super::show;
@@ -75,10 +74,10 @@ fn on_parts(
     buf: &mut [u8],
     at: usize,
 ) -> usize {
-    let r = least(as_lent.readings.len, readings.len());
-    let l = least(as_lent.links.len, links.len());
-    let d = least(as_lent.directory.len, directory.len());
-    let p = least(as_lent.pool.len, pool.len());
+    let r = numbers::least(as_lent.readings.len, readings.len());
+    let l = numbers::least(as_lent.links.len, links.len());
+    let d = numbers::least(as_lent.directory.len, directory.len());
+    let p = numbers::least(as_lent.pool.len, pool.len());
     let fill = page::fill(input, base);
     let mut page = [fill; PAGE];
     let n = page::room(input, base);

@@ -8,7 +8,6 @@ use native.Mathlib.Omega.{arith}
 use Rattle.numbers.specs.Numbers.{segmentOf, offsetOf, directoryWord, processOf, placeOf}
 use Rattle.numbers.specs.Laws.{segment-bounds, place-at}
 use Rattle.numbers.specs.Logs.{double-next}
-use Rattle.numbers.specs.declared.Cell.{Cell}
 use Rattle.numbers.specs.declared.Place.{Place}
 use Rattle.numbers.specs.declared.Process.{Process}
 use Rattle.lanes.specs.declared.Check.{Check}

@@ -3,7 +3,7 @@
 use Prim.Native.Nat.{ℕ, _<_}
 use mathlib.Core.Path.{_≡_}
 use mathlib.Core.Logic.{_≢_}
-use mathlib.Core.Bool.{true, false}
+use mathlib.Core.Bool.{true}
 use lib.ListN.{length, getD}
 use Rattle.numbers.specs.Numbers.{directoryWord}
 use Rattle.refusals.specs.declared.Refusal.{Refusal}
@@ -21,7 +21,7 @@ use Rattle.acts.specs.declared.Answer.the-variants as Answer
 use Rattle.acts.specs.declared.Stepped.{Stepped}
 use Rattle.acts.specs.declared.Opening.the-variants as Opening
 use Rattle.acts.specs.declared.Opened.{Opened}
-use Rattle.acts.specs.Calls.{fresh, openOf, beginOf, Outcome, outcome, stepOf, settled, advance, numbersFit, sizesOf, seenBy}
+use Rattle.acts.specs.Calls.{fresh, openOf, beginOf, outcome, stepOf, settled, advance, numbersFit, sizesOf, seenBy}
 use Rattle.claims.specs.declared.Word.{Word}
 use Rattle.claims.specs.declared.Word.the-variants as Word
 use Rattle.claims.specs.Words.{wordAt, touched, pastCheck}

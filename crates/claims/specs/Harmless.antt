@@ -5,16 +5,14 @@ use mathlib.Core.Path.{_≡_, refl, sym, ap, _∙_}
 use mathlib.Core.Bool.{Bool, true, false}
 use mathlib.Core.List.{List, [], _∷_}
 use native.Mathlib.Omega.{arith}
-use lib.Seq.{set-getD}
 use Rattle.refusals.specs.Orders.{Rule, orders, pick}
 use Rattle.refusals.specs.declared.Refusal.{Refusal}
 use Rattle.refusals.specs.declared.Refusal.the-variants as Refusal
 use Rattle.lanes.specs.declared.Lane.{Lane}
 use Rattle.lanes.specs.declared.State.{State}
-use Rattle.lanes.specs.Ranges.{rest, laneOf, stateFits}
+use Rattle.lanes.specs.Ranges.{laneOf, stateFits}
 use Rattle.steps.specs.declared.Next.{Next}
 use Rattle.steps.specs.declared.Next.the-variants as Next
-use Rattle.steps.specs.Memory.{Memory}
 use Rattle.acts.specs.declared.Ask.{Ask}
 use Rattle.acts.specs.declared.Acted.{Acted}
 use Rattle.acts.specs.declared.Answer.{Answer}
@@ -23,7 +21,8 @@ use Rattle.acts.specs.declared.Opening.{Opening}
 use Rattle.acts.specs.declared.Opening.the-variants as Opening
 use Rattle.acts.specs.declared.Verdict.{Verdict}
 use Rattle.acts.specs.declared.Verdict.the-variants as Verdict
-use Rattle.acts.specs.Calls.{openingOf, openedAs, refusedAs, beginRefusals, opOf, begunOf, settled, steppedAs, answerOf, verdictOf, effectOf, outcome, outcomeAs, sizesOf, seenBy, Outcome}
+use Rattle.acts.specs.Settled.{put-back}
+use Rattle.acts.specs.Calls.{openingOf, openedAs, refusedAs, beginRefusals, opOf, begunOf, steppedAs, answerOf, verdictOf, effectOf, outcome, outcomeAs, sizesOf, seenBy, Outcome}
 use Rattle.claims.specs.Claims.{OneOpening, OneBeginning, OneStep, RefusedOpen, ClosedBegin, ClosedStep, RefusedBegin, RefusedStep, closed}
 
 pub one-opening : OneOpening
@@ -42,10 +41,6 @@ refused-open-is-closed p m first step mem r = by (openingOf p m mem)
     by : (o : Opening) → openedAs p m first step o .opening ≡ Opening.Refused r → openedAs p m first step o .state ≡ closed
     by Opening.Open h = absurd (let y : _≡_ {A = ℕ} 0 1 = cc in omega arith)
     by (Opening.Refused x) h = refl
-
--- a lane put back where it was
-pub put-back : (s : State) (q : ℕ) → settled s q (laneOf s q) (s .top) ≡ s
-put-back s q = ap (λ (l : List Lane). record { p = s .p; m = s .m; first = s .first; step = s .step; top = s .top; lanes = l }) (set-getD (s .lanes) q rest)
 
 -- a call's acts: refused, and the lane and the top are as they were; or not refused
 data Acts (l : Lane) (top : ℕ) : Acted → Type 0 where

@@ -3,19 +3,19 @@
 use Prim.Native.Nat.{ℕ, _<_}
 use mathlib.Core.Path.{_≡_, refl, sym, ap, _∙_}
 use mathlib.Core.Bool.{Bool, true, false, _&&_}
-use native.Mathlib.Decide.{ℕ-discrete}
 use lib.Dec.{leb}
 use lib.ListN.{length}
 use lib.Seq.{getD-set-same}
 use borrow.Author.Tests.{le-leb}
-use Rattle.numbers.specs.Numbers.{mostProcesses, mostCells, poolWords}
+use Rattle.numbers.specs.Numbers.{poolWords}
+use Rattle.numbers.specs.BelowLaws.{and-left, and-right}
 use Rattle.lanes.specs.declared.Lane.{Lane}
 use Rattle.lanes.specs.declared.State.{State}
-use Rattle.lanes.specs.Ranges.{rest, laneOf, below, laneFits, sizesFit, stateFits}
-use Rattle.lanes.specs.Laws.{below-all, and-left, and-right, sized, sizes-of, lane-of}
+use Rattle.lanes.specs.Ranges.{rest, laneOf, laneFits, stateFits}
+use Rattle.lanes.specs.Laws.{sized, sizes-of, lane-of}
 use Rattle.acts.specs.Calls.{settled}
+use Rattle.acts.specs.Settled.{settled-fits}
 use Rattle.claims.specs.Claims.{NewNumbers}
-use Rattle.claims.specs.OneWord.{lane-other}
 
 -- two tests that follow from each other are one
 both-ways : (a b : Bool) → (a ≡ true → b ≡ true) → (b ≡ true → a ≡ true) → a ≡ b
@@ -31,22 +31,10 @@ module _ (s : State) (q : ℕ) (fine : stateFits s ≡ true) (low : q < s .p) (h
   lane-new = getD-set-same (s .lanes) q l rest here
 
   to : (leb t (poolWords (s .p) (s .m)) && laneFits (s .p) (s .m) l) ≡ true → stateFits s′ ≡ true
-  to h = rw (sizes, lanes)
-    where
-      top-low : leb t (poolWords (s .p) (s .m)) ≡ true
-      top-low = and-left (leb t (poolWords (s .p) (s .m))) (laneFits (s .p) (s .m) l) h
-
-      sizes : sizesFit (s .p) (s .m) t ≡ true
-      sizes =
-          let z = sized (s .p) (s .m) (s .top) (sizes-of s fine) in
-          rw (le-leb 1 (s .p) (z .p-low), le-leb (s .p) mostProcesses (z .p-high), le-leb 1 (s .m) (z .m-low), le-leb (s .m) mostCells (z .m-high)) top-low
-
-      at : (r : ℕ) → r < s .p → Dec (r ≡ q) → laneFits (s .p) (s .m) (laneOf s′ r) ≡ true
-      at r k (yes e) = rw e (ap (laneFits (s .p) (s .m)) lane-new ∙ and-right (leb t (poolWords (s .p) (s .m))) (laneFits (s .p) (s .m) l) h)
-      at r k (no e) = ap (laneFits (s .p) (s .m)) (lane-other s q l t r e) ∙ lane-of s fine r k
-
-      lanes : below (s .p) (λ (r : ℕ). laneFits (s .p) (s .m) (laneOf s′ r)) ≡ true
-      lanes = below-all (s .p) (λ (r : ℕ). laneFits (s .p) (s .m) (laneOf s′ r)) (λ r k. at r k (ℕ-discrete r q))
+  to h =
+      settled-fits s q l t fine
+      (and-right (leb t (poolWords (s .p) (s .m))) (laneFits (s .p) (s .m) l) h)
+      (and-left (leb t (poolWords (s .p) (s .m))) (laneFits (s .p) (s .m) l) h)
 
   fro : stateFits s′ ≡ true → (leb t (poolWords (s .p) (s .m)) && laneFits (s .p) (s .m) l) ≡ true
   fro h =

@@ -2,12 +2,10 @@
 -- Assumes nothing.
 use Prim.Native.Nat.{ℕ, _+_}
 use mathlib.Core.Path.{_≡_, refl, sym, ap, _∙_}
-use mathlib.Core.Bool.{Bool, true, false}
+use mathlib.Core.Bool.{true}
 use mathlib.Core.List.{List}
-use lib.Dec.{ltb}
 use lib.ListN.{length, getD}
-use Rattle.numbers.specs.Numbers.{segmentOf, offsetOf, directoryWord, processOf, placeOf}
-use Rattle.refusals.specs.Orders.{pick}
+use Rattle.numbers.specs.Numbers.{segmentOf, offsetOf, directoryWord, placeOf}
 use Rattle.lanes.specs.declared.Check.{Check}
 use Rattle.lanes.specs.declared.Check.the-variants as Check
 use Rattle.lanes.specs.declared.Stage.{Stage}
@@ -18,13 +16,11 @@ use Rattle.lanes.specs.declared.Lane.{Lane}
 use Rattle.lanes.specs.declared.State.{State}
 use Rattle.lanes.specs.Ranges.{laneOf}
 use Rattle.steps.specs.declared.Got.{Got}
-use Rattle.steps.specs.declared.Got.the-variants as Got
-use Rattle.steps.specs.declared.Found.{Found}
 use Rattle.steps.specs.Memory.{Memory}
 use Rattle.steps.specs.Steps.{startOf, poolWord, check, checkedTurn, markTurn, readTurn, askedTurn, opTurn}
 use Rattle.acts.specs.Calls.{namedIn, named, sizesOf}
 use Rattle.claims.specs.Words.{wordAt, touchedIn, touched, pastCheck}
-use Rattle.claims.specs.Claims.{Alike, SeesOneWord}
+use Rattle.claims.specs.Claims.{SeesOneWord}
 
 -- a word of two pools of one length that agree there
 word-same : (a b : List ℕ) (start n : ℕ) → length a ≡ length b → getD a (start + offsetOf n) 0 ≡ getD b (start + offsetOf n) 0

@@ -1,6 +1,6 @@
 -- Proof: a step changes at most one shared word, and nothing of another lane.
 -- Assumes nothing.
-use Prim.Native.Nat.{ℕ, _+_, _<_}
+use Prim.Native.Nat.{ℕ, _+_}
 use mathlib.Core.Path.{_≡_, refl, sym, ap, _∙_, subst}
 use mathlib.Core.Logic.{_≢_}
 use mathlib.Core.Bool.{Bool, true, false}
@@ -22,12 +22,12 @@ use Rattle.steps.specs.Memory.{Memory}
 use Rattle.steps.specs.Changes.{laneAfter, topAfter, memoryAfter}
 use Rattle.acts.specs.declared.Verdict.{Verdict}
 use Rattle.acts.specs.declared.Verdict.the-variants as Verdict
+use Rattle.acts.specs.Settled.{put-back}
 use Rattle.acts.specs.Calls.{settled, advance, verdictOf, effectOf, outcomeAs, sizesOf, seenBy}
 use Rattle.claims.specs.declared.Word.{Word}
 use Rattle.claims.specs.declared.Word.the-variants as Word
 use Rattle.claims.specs.Words.{wordAt}
 use Rattle.claims.specs.Claims.{Changed, ChangesOneWord}
-use Rattle.claims.specs.Harmless.{put-back}
 
 -- what a new lane of process q leaves as it was, is as it was in every lane
 pub lane-kept : {A : Type 0} (f : Lane → A) (s : State) (q : ℕ) (l : Lane) (t : ℕ) → f l ≡ f (laneOf s q)
@@ -42,7 +42,7 @@ lane-kept f s q l t e r = by (ℕ-discrete r q)
     by (yes k) = rw k (own (ltb q (length (s .lanes))) refl)
     by (no k) = ap f (getD-set-other (s .lanes) q r l rest k)
 
-pub lane-other : (s : State) (q : ℕ) (l : Lane) (t r : ℕ) → r ≢ q → laneOf (settled s q l t) r ≡ laneOf s r
+lane-other : (s : State) (q : ℕ) (l : Lane) (t r : ℕ) → r ≢ q → laneOf (settled s q l t) r ≡ laneOf s r
 lane-other s q l t r k = getD-set-other (s .lanes) q r l rest k
 
 same-marks : (nx : Next) (l : Lane) → advance nx l .marks ≡ l .marks

@@ -7,8 +7,8 @@ use native.Mathlib.Omega.{arith}
 use borrow.Author.Tests.{lt-ltb, le-leb, eq-eqb}
 use lib.ListN.{length}
 use Rattle.numbers.specs.Numbers.{mostProcesses, mostCells, mostSegments, mostSteps, mostMarks, directoryWords, poolWords, processOf, placeOf}
+use Rattle.numbers.specs.BelowLaws.{below-all}
 use Rattle.lanes.specs.Ranges.{laneOf, checkFits, stageFits, opFits, laneFits, stateFits}
-use Rattle.lanes.specs.Laws.{below-all}
 use Rattle.acts.specs.Calls.{lengthsFit, cellOf}
 use Rattle.theory.specs.Interface as Theory
 use Rattle.demands.specs.Types.{Cell, Check, Stage, Op, Lane, State, Memory, Ask}

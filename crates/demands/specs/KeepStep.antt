@@ -9,6 +9,7 @@ use lib.ListN.{length-set}
 use Rattle.numbers.specs.Numbers.{offsetOf}
 use Rattle.lanes.specs.Ranges.{laneOf}
 use Rattle.steps.specs.Changes.{laneAfter, topAfter, memoryAfter}
+use Rattle.acts.proofs.NewLaws.{same-steps}
 use Rattle.acts.specs.Calls.{cellOf, advance, answerOf, settled}
 use Rattle.theory.specs.Interface as Theory
 use Rattle.demands.specs.Types.{Op, Lane, State, Memory, Change, Next, Turn, Ask}
@@ -60,15 +61,6 @@ advanced (Next.Going o) l = (refl, refl)
 advanced (Next.Read v t) l = (refl, refl)
 advanced Next.Written l = (refl, refl)
 advanced (Next.Asked t) l = (refl, refl)
-
-steps-same : (change : Change) (l : Lane) → laneAfter change l .steps ≡ l .steps
-steps-same Change.Nothing l = refl
-steps-same (Change.Reading i v) l = refl
-steps-same (Change.Link i w) l = refl
-steps-same (Change.Directory k start) l = refl
-steps-same (Change.Mark start n mark) l = refl
-steps-same (Change.Marks n) l = refl
-steps-same (Change.Top top drawn) l = refl
 
 agrees-after : (a : Ask) (began taken x : ℕ) (next : Next) (l : Lane) → l .steps ≡ taken → Carries a x next → LaneAgrees (advance next l) (doingAfter began a taken next)
 agrees-after a began taken x (Next.Going o) l e c = (c .0, omega arith)
@@ -193,7 +185,7 @@ module _ {s : State} {mem : Memory} {b : Book} (H : Good s mem b) (q : ℕ) {beg
     lanes = length-set (s .lanes) q steppedLane ∙ H .lanes;
     lengths = keeps-lengths (g .change) (H .lengths);
     agrees = lane-all (b .doing) (s .lanes) q (doingAfter began a taken (g .next)) steppedLane (inside H q own) (λ r d l. LaneAgrees l d)
-        (agrees-after a began taken (g .start) (g .next) (laneAfter (g .change) (laneOf s q)) (steps-same (g .change) (laneOf s q) ∙ does H q e .1) (g .carries)) (λ r ne. H .agrees r);
+        (agrees-after a began taken (g .start) (g .next) (laneAfter (g .change) (laneOf s q)) (same-steps (g .change) (laneOf s q) ∙ does H q e .1) (g .carries)) (λ r ne. H .agrees r);
     marks = after .watch .mem .marks;
     held = Theory.upd (H .held) q (g .start);
     holds = lane-all (b .doing) (s .lanes) q (doingAfter began a taken (g .next)) steppedLane (inside H q own) (λ r d l. Held (l .op) (Theory.upd (H .held) q (g .start) r))

@@ -12,7 +12,7 @@ use Rattle.refusals.specs.Orders.{pick}
 use Rattle.lanes.specs.Ranges.{laneOf}
 use Rattle.acts.specs.Calls as Grid
 use Rattle.theory.specs.Interface as Theory
-use Rattle.demands.specs.Types.{Refusal, State, Memory, Next, Ask, Opening, Stepped}
+use Rattle.demands.specs.Types.{Refusal, State, Memory, Next, Ask, Stepped}
 use Rattle.demands.specs.Calls.{grid, Call, begin, step, misfit, answerTo}
 use Rattle.demands.specs.Book.{Doing, nothing, busy, Book, kindOf, Run}
 use Rattle.demands.specs.Demand1.{refused, begins, steps, kind}

@@ -1,55 +1,20 @@
 -- What a state in its ranges says of its numbers: for callers, in place of the definitions' text.
 -- Assumes nothing.
-use mathlib.Core.Path.{_≡_, refl, ap, sym, _∙_}
-use mathlib.Core.Bool.{Bool, true, false, _&&_}
-use mathlib.Core.Logic.{⊎-elim}
-use Prim.Native.Nat.{ℕ, zero, suc, _+_, _<_, _≤_}
-use native.Mathlib.Numerals.{add-one}
-use native.Mathlib.Omega.{arith}
-use native.Mathlib.Nat.{not-suc-le-zero, eq-or-lt-of-le}
+use mathlib.Core.Path.{_≡_}
+use mathlib.Core.Bool.{true, _&&_}
+use Prim.Native.Nat.{ℕ, _<_, _≤_}
 use lib.Dec.{leb, ltb}
-use lib.ListN.{getD}
 use borrow.Author.Tests.{leb-true}
 use Rattle.numbers.specs.Numbers.{mostProcesses, mostCells, mostSegments, mostSteps, mostMarks, poolWords}
 use Rattle.numbers.specs.declared.Cell.{Cell}
+use Rattle.numbers.specs.Below.{below}
+use Rattle.numbers.specs.BelowLaws.{and-left, and-right, below-at}
 use Rattle.lanes.specs.declared.Stage.{Stage}
 use Rattle.lanes.specs.declared.Op.{Op}
 use Rattle.lanes.specs.declared.Op.the-variants as Op
 use Rattle.lanes.specs.declared.Lane.{Lane}
 use Rattle.lanes.specs.declared.State.{State}
-use Rattle.lanes.specs.Ranges.{rest, laneOf, below, stageFits, opFits, laneFits, sizesFit, stateFits}
-
-pub and-left : (a b : Bool) → (a && b) ≡ true → a ≡ true
-and-left true b h = refl
-and-left false b h = h
-
-pub and-right : (a b : Bool) → (a && b) ≡ true → b ≡ true
-and-right true b h = h
-and-right false b h = let z : false ≡ true = h in cc
-
-and-false : (b : Bool) → (b && false) ≡ false
-and-false true = refl
-and-false false = refl
-
--- a test that passes below i, and at i, passes below i + 1
-pub below-more : (i : ℕ) (f : ℕ → Bool) → (below i f && f i) ≡ below (i + 1) f
-unfolding below
-below-more i f = rw (add-one i)
-
--- a test that passes below n passes at each number below n
-pub below-at : (n i : ℕ) (f : ℕ → Bool) → i < n → below n f ≡ true → f i ≡ true
-unfolding below
-below-at zero i f h x = absurd (not-suc-le-zero h)
-below-at (suc n) i f h x =
-    ⊎-elim
-    (λ (e : i ≡ n). rw e (and-right (below n f) (f n) x))
-    (λ (e : i < n). below-at n i f e (and-left (below n f) (f n) x))
-    (eq-or-lt-of-le (omega arith))
-
-pub below-all : (n : ℕ) (f : ℕ → Bool) → ((q : ℕ) → q < n → f q ≡ true) → below n f ≡ true
-unfolding below
-below-all zero f h = refl
-below-all (suc n) f h = rw (below-all n f (λ q k. h q (omega arith))) (h n (omega arith))
+use Rattle.lanes.specs.Ranges.{laneOf, stageFits, opFits, laneFits, sizesFit, stateFits}
 
 pub record Sized (p m top : ℕ) : Type 0 where
   pub p-low : 1 ≤ p

@@ -1,11 +1,12 @@
 -- The range of every number of a state: what refusal 9 (state) looks at.
 -- Assumes nothing.
-use Prim.Native.Nat.{ℕ, zero, suc}
+use Prim.Native.Nat.{ℕ}
 use mathlib.Core.Bool.{Bool, true, false, _&&_}
 use lib.Dec.{ltb, leb, eqb}
 use lib.ListN.{getD}
 use Rattle.numbers.specs.Numbers.{mostProcesses, mostCells, mostSegments, mostSteps, mostMarks, poolWords, processOf, placeOf}
 use Rattle.numbers.specs.declared.Place.{Place}
+use Rattle.numbers.specs.Below.{below}
 use Rattle.lanes.specs.declared.Check.{Check}
 use Rattle.lanes.specs.declared.Check.the-variants as Check
 use Rattle.lanes.specs.declared.Stage.{Stage}
@@ -74,11 +75,6 @@ laneFits p m l =
 -- p, m and the pool's top.
 abbrev pub sizesFit : ℕ → ℕ → ℕ → Bool
 sizesFit p m top = leb 1 p && (leb p mostProcesses && (leb 1 m && (leb m mostCells && leb top (poolWords p m))))
-
--- The test f passes at every number below n.
-unfoldable pub below : ℕ → (ℕ → Bool) → Bool
-below zero f = true
-below (suc n) f = below n f && f n
 
 -- Lanes at or above p are not looked at.
 abbrev pub stateFits : State → Bool

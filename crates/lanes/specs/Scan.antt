@@ -4,9 +4,11 @@ use mathlib.Core.Path.{_≡_, refl, sym, ap, _∙_}
 use mathlib.Core.Bool.{Bool, true, false, _&&_}
 use Prim.Native.Nat.{ℕ, _+_, _≤_}
 use Rattle.numbers.specs.Numbers.{mostProcesses}
+use Rattle.numbers.specs.Below.{below}
+use Rattle.numbers.specs.BelowLaws.{below-more}
 use Rattle.lanes.specs.declared.State.{State}
-use Rattle.lanes.specs.Ranges.{laneOf, below, laneFits, sizesFit, stateFits}
-use Rattle.lanes.specs.Laws.{below-more, sized}
+use Rattle.lanes.specs.Ranges.{laneOf, laneFits, sizesFit, stateFits}
+use Rattle.lanes.specs.Laws.{sized}
 
 -- the sizes, and the lanes below i
 abbrev pub Passed : State → ℕ → Bool → Type 0

@@ -1,6 +1,6 @@
 // The numbers of the grid: cells, places and processes, segments, links and the filling rule.
 ghost use mathlib.Core.Path.{_≡_};
-ghost use Prim.Native.Nat.{_%_};
+ghost use Prim.Native.Nat.{_%_, min};
 ghost use Rattle.numbers.specs.Numbers.{mostMarks, directoryWords, directoryWord, poolWords, segmentOf, offsetOf, sizeOf};
 ghost use Rattle.numbers.specs.Numbers.{packOf, processOf, placeOf, productOf, fillOf};
 
@@ -117,4 +117,10 @@ pub fn fill(first: u32, step: u32, i: Cell) -> u32
     ensures { λ r. ⌜ r ≡ fillOf first step (i .0) ⌝ }
 {
     std::num::wrapping_add_u32(first, wrapping_mul(step, i.0))
+}
+
+pub fn least(a: usize, b: usize) -> usize
+    ensures { λ r. ⌜ r ≡ min a b ⌝ }
+{
+    if a < b { a } else { b }
 }

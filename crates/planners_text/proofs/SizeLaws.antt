@@ -7,9 +7,10 @@ use mathlib.Core.List.{_++_}
 use native.Mathlib.Omega.{arith}
 use native.Mathlib.Numerals.{add-one}
 use lib.ListN.{length, length-append}
+use borrow.Author.Tests.{not-true, not-false}
+use Rattle.numbers.specs.Below.{below}
+use Rattle.numbers.specs.BelowLaws.{below-fails, below-more}
 use Rattle.lanes.specs.declared.State.{State}
-use Rattle.lanes.specs.Ranges.{below}
-use Rattle.lanes.specs.Laws.{below-at, below-more}
 use Rattle.quiet.specs.declared.Quarter.{Quarter}
 use Rattle.quiet.specs.declared.Quarter.the-variants as Quarter
 use Rattle.steps.specs.Memory.{Memory}
@@ -70,21 +71,6 @@ measuring-start s mem = record { low = omega arith; fits = refl; is = refl; few 
 pub lines-more : (s : State) (mem : Memory) (i : ℕ) → linesBelow s mem (i + 1) ≡ linesBelow s mem i ++ lineAs i (quarterAt s mem i)
 unfolding linesBelow
 lines-more s mem i = rw (add-one i)
-
-not-true : (b : Bool) → not b ≡ true → b ≡ false
-not-true true h = let z : false ≡ true = h in cc
-not-true false h = refl
-
-not-false : (b : Bool) → not b ≡ false → b ≡ true
-not-false true h = refl
-not-false false h = let z : true ≡ false = h in cc
-
-below-fails : (n i : ℕ) (f : ℕ → Bool) → i < n → f i ≡ false → below n f ≡ false
-below-fails n i f h x = by (below n f) refl
-  where
-    by : (b : Bool) → below n f ≡ b → b ≡ false
-    by true e = let y = below-at n i f h e in cc
-    by false e = refl
 
 module _ (s : State) (mem : Memory) (total i : ℕ) (g : Measuring s mem total i) where
   module _ (h : i < s .m) (q : Quarter) (e : q ≡ quarterAt s mem i) (b : Bool) (k : b ≡ inside q) where

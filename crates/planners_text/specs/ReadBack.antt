@@ -9,7 +9,6 @@ use native.Mathlib.Omega.{arith}
 use lib.Dec.{ltb}
 use lib.ListN.{length}
 use borrow.Author.Tests.{ltb-true, ltb-false, le-leb, ne-eqb}
-use Rattle.refusals.specs.Orders.{pick}
 use Rattle.lanes.specs.declared.State.{State}
 use Rattle.quiet.specs.declared.Quarter.{Quarter}
 use Rattle.quiet.specs.declared.Quarter.the-variants as Quarter

@@ -16,7 +16,7 @@ use Rattle.qhs.specs.Qhs.{mostKind, recordAt}
 use Rattle.lanes.specs.declared.State.{State}
 use Rattle.steps.specs.Memory.{Memory}
 use Rattle.acts.specs.Calls.{Outcome}
-use Rattle.batch.specs.Batch.{entered, Batch, batch, entering, least, entries, batchOf, Told}
+use Rattle.batch.specs.Batch.{entered, Batch, batch, entering, entries, batchOf, Told}
 use Rattle.batch.specs.Batch as Batches
 use Rattle.play.specs.Play.{cellOf, turnOf, World, world, turned, after}
 use Rattle.play.specs.Inner.{listRecords, countOf, kindOf, Listed, Played, Short}
@@ -133,27 +133,9 @@ module _ (bytes : List ℕ) (w : World) (first c : ℕ) (kinds processes cells v
   }
 
 -- the shortest of the lists is that of the kinds
-least-first : (a b : ℕ) → a ≤ b → least a b ≡ a
-least-first a b h = by (ltb a b) refl
-  where
-    by : (x : Bool) → ltb a b ≡ x → pick x a b ≡ a
-    by true k = refl
-    by false k = let y = ltb-false a b k in omega arith
-
-least-both : (a b c : ℕ) → c ≤ a → c ≤ b → c ≤ least a b
-least-both a b c h k = by (ltb a b)
-  where
-    by : (x : Bool) → c ≤ pick x a b
-    by true = h
-    by false = k
-
 pub entries-first : (c : ℕ) (kinds processes cells values words : List ℕ) → c ≡ length kinds → c ≤ length processes → c ≤ length cells → c ≤ length values
     → c ≤ length words → c ≡ entries kinds processes cells values words
-entries-first c kinds processes cells values words e p q v w =
-    let a = least-first (length kinds) (length processes) (omega arith) in
-    let b = least-both (length cells) (length values) (length kinds) (omega arith) (omega arith) in
-    let d = least-first (length kinds) (least (length cells) (length values)) b in
-    e ∙ sym (rw (a, d) (least-first (length kinds) (length words) (omega arith)))
+entries-first c kinds processes cells values words e p q v w = omega arith
 
 -- the lists filled, and the batch run on as many kinds as there are records
 pub played-is : (bytes : List ℕ) (first c i : ℕ) (kinds processes cells values : List ℕ) (s r : State) (mem mem′ : Memory) (words words′ : List ℕ) → Short first c words → c ≤ i

@@ -4,8 +4,8 @@ use Prim.Native.Nat.{ℕ}
 use mathlib.Core.Path.{_≡_, refl}
 use mathlib.Core.List.{List, [], _∷_, _++_}
 use Rattle.numbers.specs.Numbers.{segmentOf, offsetOf, sizeOf, log2, logIn}
-use Rattle.qhs.specs.Qhs.{numberAt, recordAt, each, readOf}
-use Rattle.lanes.specs.Ranges.{below}
+use Rattle.numbers.specs.Below.{below}
+use Rattle.qhs.specs.Qhs.{numberAt, recordAt, readOf}
 use Rattle.acts.specs.Calls.{openingOf, begunOf, verdictOf}
 use Rattle.text.specs.Text.{word, decimalIn, decimal, answerLine, sizesLine}
 use Rattle.play.specs.Play.{turnOf, after, linesTo, scheduleText, outputOf}
@@ -31,5 +31,5 @@ file =
 
 pub listing : outputOf file
     ≡ word "processes 1 cells 2\n0 begun\n1 read 7 0 1\n2 begun\n3 going\n4 going\n5 going\n6 going\n7 going\n8 going\n9 written 7\n10 begun\n11 going\n12 going\n13 going\n14 going\n15 read 9 1 5\n16 refused 7\n"
-unfolding readOf numberAt recordAt each turnOf after linesTo scheduleText openingOf begunOf verdictOf decimalIn decimal answerLine sizesLine segmentOf offsetOf sizeOf log2 logIn below
+unfolding readOf numberAt recordAt turnOf after linesTo scheduleText openingOf begunOf verdictOf decimalIn decimal answerLine sizesLine segmentOf offsetOf sizeOf log2 logIn below
 listing = refl

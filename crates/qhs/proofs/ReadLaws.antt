@@ -9,33 +9,34 @@ use lib.Dec.{eqb}
 use lib.ListN.{length}
 use borrow.Author.Tests.{lt-ltb, le-ltb, le-leb, lt-leb, eq-eqb, ne-eqb, not-true, not-false}
 use Rattle.numbers.specs.Numbers.{mostProcesses, mostCells}
+use Rattle.numbers.specs.Below.{below}
+use Rattle.numbers.specs.BelowLaws.{below-fails, below-next}
 use Rattle.refusals.specs.declared.Refusal.{Refusal}
 use Rattle.refusals.specs.declared.Refusal.the-variants as Refusal
 use Rattle.qhs.specs.declared.Header.{Header}
 use Rattle.qhs.specs.declared.Reading.{Reading}
 use Rattle.qhs.specs.declared.Reading.the-variants as Reading
 use Rattle.qhs.specs.Qhs.{headerBytes, recordBytes, mostBytes, version, mostFileCells, mostKind}
-use Rattle.qhs.specs.Qhs.{marked, versionOf, headerOf, bodyBytes, recordsIn, recordAt, each, kindFits, readOf}
+use Rattle.qhs.specs.Qhs.{marked, versionOf, headerOf, bodyBytes, recordsIn, recordAt, kindFits, readOf}
 use Rattle.qhs.specs.Inner.{openedAs}
-use Rattle.qhs.specs.Laws.{each-more, each-fails}
 
 -- ---- the kinds of the first records
 
 abbrev pub Known : List ℕ → ℕ → Type 0
-Known s k = each k (kindFits s) ≡ true
+Known s k = below k (kindFits s) ≡ true
 
 pub known-none : (s : List ℕ) → Known s 0
-unfolding each
+unfolding below
 known-none s = refl
 
 module _ (s : List ℕ) (k kind : ℕ) (is : kind ≡ recordAt s k .kind) where
   pub known-next : Known s k → kind ≤ mostKind → Known s (k + 1)
-  known-next h low = each-more k (kindFits s) h (le-leb _ _ (rw is at low))
+  known-next h low = below-next k (kindFits s) h (le-leb _ _ (rw is at low))
 
-  pub unknown : (n : ℕ) → k < n → mostKind < kind → false ≡ each n (kindFits s)
-  unknown n h high = sym (each-fails n k (kindFits s) h (lt-leb _ _ (rw is at high)))
+  pub unknown : (n : ℕ) → k < n → mostKind < kind → false ≡ below n (kindFits s)
+  unknown n h high = sym (below-fails n k (kindFits s) h (lt-leb _ _ (rw is at high)))
 
-pub known-all : (s : List ℕ) (k n : ℕ) → Known s k → k ≤ n → n ≤ k → true ≡ each n (kindFits s)
+pub known-all : (s : List ℕ) (k n : ℕ) → Known s k → k ≤ n → n ≤ k → true ≡ below n (kindFits s)
 known-all s k n h low high = let e : k ≡ n = omega arith in sym (rw e at h)
 
 -- ---- the refusals
@@ -79,7 +80,7 @@ module _ (s : List ℕ) where
             unfolding readOf
             ragged h = simp (le-ltb _ _ fits, le-leb _ _ long, is-marked, is-one, m-is, le-ltb _ _ few, ne-eqb _ _ h)
 
-            module _ (whole : bodyBytes s % recordBytes ≡ 0) (t : Bool) (et : t ≡ each (recordsIn s) (kindFits s)) where
+            module _ (whole : bodyBytes s % recordBytes ≡ 0) (t : Bool) (et : t ≡ below (recordsIn s) (kindFits s)) where
               pub unknown-kind : not t ≡ true → Reading.Refused Refusal.RecordKind ≡ readOf s
               unfolding readOf
               unknown-kind h =

@@ -1,11 +1,10 @@
 -- What callers may use of numbers in a file and of a file that was read, in place of the definitions' text.
 -- Assumes nothing.
 use mathlib.Core.Path.{_≡_, refl, sym, ap, _∙_}
-use mathlib.Core.Bool.{Bool, true, false, not, _&&_}
+use mathlib.Core.Bool.{true, false, not, _&&_}
 use mathlib.Core.List.{List}
-use mathlib.Core.Logic.{⊎-elim}
 use Prim.Native.Nat.{ℕ, zero, suc, _+_, _*_, _%_, _^_, _<_, _≤_}
-use native.Mathlib.Nat.{pow-zero, pow-succ', not-suc-le-zero, eq-or-lt-of-le}
+use native.Mathlib.Nat.{pow-zero, pow-succ'}
 use native.Mathlib.Numerals.{add-one}
 use native.Mathlib.Omega.{arith}
 use lib.ListN.{length, drop, List·getD-eq-default}
@@ -13,13 +12,14 @@ use lib.Seq.{getD-drop}
 use lib.Dec.{leb}
 use borrow.Author.Tests.{ltb-false, leb-true, eqb-true, not-false}
 use Rattle.numbers.specs.Numbers.{mostProcesses, mostCells}
+use Rattle.numbers.specs.BelowLaws.{and-left, and-right, below-at}
 use Rattle.refusals.specs.Laws.{past}
 use Rattle.refusals.specs.declared.Refusal.{Refusal}
 use Rattle.qhs.specs.declared.Header.{Header}
 use Rattle.qhs.specs.declared.Reading.{Reading}
 use Rattle.qhs.specs.declared.Reading.the-variants as Reading
 use Rattle.qhs.specs.Qhs.{headerBytes, recordBytes, mostBytes, mostFileCells, mostKind, version, byteAt, numberAt, marked, versionOf, headerOf, recordAt}
-use Rattle.qhs.specs.Qhs.{bodyBytes, recordsIn, each, kindFits, kindsFit, fileRefusals, readOf}
+use Rattle.qhs.specs.Qhs.{bodyBytes, recordsIn, kindFits, kindsFit, fileRefusals, readOf}
 
 -- Every byte is below 256.
 abbrev pub Bytes : List ℕ → Type 0
@@ -59,48 +59,6 @@ number-past s at (suc width) h =
     let here = List·getD-eq-default s 0 {n = at} h in
     let rest = number-past s (at + 1) width (omega arith) in
     omega arith
-
--- ---- each record
-
-pub and-left : (a b : Bool) → (a && b) ≡ true → a ≡ true
-and-left true b h = refl
-and-left false b h = h
-
-pub and-right : (a b : Bool) → (a && b) ≡ true → b ≡ true
-and-right true b h = h
-and-right false b h = let z : false ≡ true = h in cc
-
-and-false : (b : Bool) → (b && false) ≡ false
-and-false true = refl
-and-false false = refl
-
--- A test that passes at each number below n.
-pub each-at : (n i : ℕ) (f : ℕ → Bool) → i < n → each n f ≡ true → f i ≡ true
-unfolding each
-each-at zero i f h x = absurd (not-suc-le-zero h)
-each-at (suc n) i f h x =
-    ⊎-elim
-    (λ (e : i ≡ n). rw e (and-right (each n f) (f n) x))
-    (λ (e : i < n). each-at n i f e (and-left (each n f) (f n) x))
-    (eq-or-lt-of-le (omega arith))
-
-pub each-all : (n : ℕ) (g : ℕ → Bool) → ((k : ℕ) → k < n → g k ≡ true) → each n g ≡ true
-unfolding each
-each-all zero g h = refl
-each-all (suc n) g h = simp (each-all n g (λ k l. h k (omega arith)), h n (omega arith))
-
-pub each-more : (i : ℕ) (f : ℕ → Bool) → each i f ≡ true → f i ≡ true → each (i + 1) f ≡ true
-unfolding each
-each-more i f h k = rw (add-one i) (simp (h, k))
-
-pub each-fails : (n i : ℕ) (f : ℕ → Bool) → i < n → f i ≡ false → each n f ≡ false
-unfolding each
-each-fails zero i f h x = absurd (not-suc-le-zero h)
-each-fails (suc n) i f h x =
-    ⊎-elim
-    (λ (e : i ≡ n). rw (← e, x) (and-false (each i f)))
-    (λ (e : i < n). rw (each-fails n i f e x))
-    (eq-or-lt-of-le (omega arith))
 
 -- ---- a file that was read
 
@@ -152,7 +110,7 @@ schedule s r d n e f =
       m-high = rw m-is few;
       bytes = omega arith;
       bytes-high = fits;
-      kinds = λ k low. leb-true _ _ (each-at (recordsIn s) k (kindFits s) (omega arith) known);
+      kinds = λ k low. leb-true _ _ (below-at (recordsIn s) k (kindFits s) (omega arith) known);
     }
 
 -- Its numbers fit their types: first and step 32 bits, the fill 64.

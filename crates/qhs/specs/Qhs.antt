@@ -1,11 +1,12 @@
 -- The schedule file, version 1: what its bytes say, and its refusals in document 01's order.
 -- Assumes nothing.
 use Prim.Native.Nat.{ℕ, zero, suc, _+_, _-_, _*_, _/_, _%_}
-use mathlib.Core.Bool.{Bool, true, not, _&&_}
+use mathlib.Core.Bool.{Bool, not, _&&_}
 use mathlib.Core.List.{List, [], _∷_}
 use lib.Dec.{leb, ltb, eqb}
 use lib.ListN.{length, getD}
 use Rattle.numbers.specs.Numbers.{mostProcesses, mostCells}
+use Rattle.numbers.specs.Below.{below}
 use Rattle.refusals.specs.Orders.{Rule, _gives_, orders}
 use Rattle.refusals.specs.declared.Refusal.{Refusal}
 use Rattle.refusals.specs.declared.Refusal.the-variants as Refusal
@@ -86,17 +87,12 @@ bodyBytes bytes = length bytes - headerBytes
 abbrev pub recordsIn : List ℕ → ℕ
 recordsIn bytes = bodyBytes bytes / recordBytes
 
--- Whether a test passes at each number below n.
-unfoldable pub each : ℕ → (ℕ → Bool) → Bool
-each zero f = true
-each (suc n) f = each n f && f n
-
 -- No record's kind is over 3.
 abbrev pub kindFits : List ℕ → ℕ → Bool
 kindFits bytes k = leb (recordAt bytes k .kind) mostKind
 
 abbrev pub kindsFit : List ℕ → Bool
-kindsFit bytes = each (recordsIn bytes) (kindFits bytes)
+kindsFit bytes = below (recordsIn bytes) (kindFits bytes)
 
 -- Open's 1, 2.
 abbrev pub openRefusals : ℕ → ℕ → List Rule

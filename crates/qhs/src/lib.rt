@@ -2,7 +2,8 @@
 ghost use mathlib.Core.Path.{_≡_};
 ghost use Prim.Native.Nat.{_≤_};
 ghost use lib.ListN.{length};
-ghost use Rattle.qhs.specs.Qhs.{headerBytes, marked, headerOf, recordAt, each, kindFits, readOf};
+ghost use Rattle.numbers.specs.Below.{below};
+ghost use Rattle.qhs.specs.Qhs.{headerBytes, marked, headerOf, recordAt, kindFits, readOf};
 ghost use Rattle.qhs.specs.Inner.{openedAs};
 
 mod fields;
@@ -93,7 +94,7 @@ pub fn record_at(bytes: &[u8], k: usize) -> Record
 
 // Whether the first n records are of known kinds.
 fn kinds_fit(bytes: &[u8], n: usize) -> bool
-    ensures { λ r. ⌜ r ≡ each n (kindFits (now (bytes .entry))) ⌝ }
+    ensures { λ r. ⌜ r ≡ below n (kindFits (now (bytes .entry))) ⌝ }
 {
     let mut k: usize = 0;
     while k < n {

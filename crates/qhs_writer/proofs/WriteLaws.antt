@@ -9,11 +9,12 @@ use lib.Dec.{leb, ltb}
 use lib.ListN.{length, getD}
 use borrow.Author.Tests.{lt-ltb, le-ltb, le-leb, lt-leb, not-true, not-false}
 use Rattle.numbers.specs.Numbers.{mostProcesses, mostCells}
+use Rattle.numbers.specs.Below.{below}
+use Rattle.numbers.specs.BelowLaws.{below-fails, below-next}
 use Rattle.refusals.specs.declared.Refusal.{Refusal}
 use Rattle.refusals.specs.declared.Refusal.the-variants as Refusal
 use Rattle.qhs.specs.declared.Header.{Header}
-use Rattle.qhs.specs.Qhs.{headerBytes, recordBytes, mostBytes, mostFileCells, mostKind, each}
-use Rattle.qhs.specs.Laws.{each-more, each-fails}
+use Rattle.qhs.specs.Qhs.{headerBytes, recordBytes, mostBytes, mostFileCells, mostKind}
 use Rattle.text.specs.Text.{splice}
 use Rattle.qhs_writer.specs.declared.Wrote.{Wrote}
 use Rattle.qhs_writer.specs.declared.Wrote.the-variants as Wrote
@@ -26,20 +27,20 @@ use Rattle.qhs_writer.proofs.LaidLaws.{laid-then}
 -- ---- the kinds of the first records
 
 abbrev pub Known : List ℕ → ℕ → Type 0
-Known kinds k = each k (known kinds) ≡ true
+Known kinds k = below k (known kinds) ≡ true
 
 pub known-none : (kinds : List ℕ) → Known kinds 0
-unfolding each
+unfolding below
 known-none kinds = refl
 
 module _ (kinds : List ℕ) (k : ℕ) where
   pub known-next : Known kinds k → getD kinds k 0 ≤ mostKind → Known kinds (k + 1)
-  known-next h low = each-more k (known kinds) h (le-leb _ _ low)
+  known-next h low = below-next k (known kinds) h (le-leb _ _ low)
 
-  pub known-not : (n : ℕ) → k < n → mostKind < getD kinds k 0 → false ≡ each n (known kinds)
-  known-not n h high = sym (each-fails n k (known kinds) h (lt-leb _ _ high))
+  pub known-not : (n : ℕ) → k < n → mostKind < getD kinds k 0 → false ≡ below n (known kinds)
+  known-not n h high = sym (below-fails n k (known kinds) h (lt-leb _ _ high))
 
-  pub known-all : (n : ℕ) → Known kinds k → k ≤ n → n ≤ k → true ≡ each n (known kinds)
+  pub known-all : (n : ℕ) → Known kinds k → k ≤ n → n ≤ k → true ≡ below n (known kinds)
   known-all n h low high = let e : k ≡ n = omega arith in sym (rw e at h)
 
 -- ---- the refusals, and the file
@@ -59,8 +60,8 @@ module _ (h : Header) (f : Fields) (out : List ℕ) (n : ℕ) (is : n ≡ count 
     unfolding writeOf
     many-cells g = simp (short, lt-ltb _ _ g)
 
-    module _ (few : h .m ≤ mostFileCells) (b : Bool) (eb : b ≡ each n (known (f .kinds))) where
-      all-known : b ≡ each (count f) (known (f .kinds))
+    module _ (few : h .m ≤ mostFileCells) (b : Bool) (eb : b ≡ below n (known (f .kinds))) where
+      all-known : b ≡ below (count f) (known (f .kinds))
       all-known = eb ∙ rw is
 
       pub unknown-kind : not b ≡ true → page (Wrote.Refused Refusal.RecordKind) out ≡ writeOf h f out
@@ -68,7 +69,7 @@ module _ (h : Header) (f : Fields) (out : List ℕ) (n : ℕ) (is : n ≡ count 
       unknown-kind g = simp (short, le-ltb _ _ few, sym all-known ∙ not-true b g)
 
       module _ (kinds : not b ≡ false) where
-        fine : each (count f) (known (f .kinds)) ≡ true
+        fine : below (count f) (known (f .kinds)) ≡ true
         fine = sym all-known ∙ not-false b kinds
 
         pub no-process : h .p < 1 → page (Wrote.Refused Refusal.ProcessCount) out ≡ writeOf h f out

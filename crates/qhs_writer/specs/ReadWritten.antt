@@ -11,11 +11,12 @@ use lib.Dec.{eqb}
 use lib.ListN.{length, getD, length-append, List·getD-append}
 use lib.Seq.{getD-at}
 use borrow.Author.Tests.{eqb-true, le-leb, lt-ltb, le-ltb}
+use Rattle.numbers.specs.BelowLaws.{and-left, and-right, below-all}
 use Rattle.refusals.specs.Orders.{pick}
 use Rattle.qhs.specs.declared.Header.{Header}
 use Rattle.qhs.specs.declared.Reading.the-variants as Reading
 use Rattle.qhs.specs.Qhs.{headerBytes, recordBytes, version, mostKind, byteAt, numberAt, marked, versionOf, headerOf, recordStart, recordAt, recordsIn}
-use Rattle.qhs.specs.Laws.{Bytes, Schedule, schedule, each-all, and-left, and-right, number-one}
+use Rattle.qhs.specs.Laws.{Bytes, Schedule, schedule, number-one}
 use Rattle.text.specs.Text.{splice}
 use Rattle.qhs_writer.specs.declared.Entry.{Entry}
 use Rattle.qhs_writer.specs.declared.Wrote.the-variants as Wrote
@@ -164,7 +165,7 @@ module _ (s : List ℕ) (h : Header) (n : ℕ) (b : Bytes s) (g : Schedule s h n
 
   all-known : allKnown (fieldsOf s n) ≡ true
   all-known =
-      each-all (count (fieldsOf s n)) (known (fieldsOf s n .kinds))
+      below-all (count (fieldsOf s n)) (known (fieldsOf s n .kinds))
       (λ k l.
       let low : k < n = omega (arith, many s n) in
       rw (listed-at n k (λ i. recordAt s i .kind) low) (le-leb _ _ (g .kinds k low)))

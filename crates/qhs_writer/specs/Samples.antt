@@ -4,10 +4,10 @@ use Prim.Native.Nat.{ℕ, _-_, _^_}
 use mathlib.Core.Path.{_≡_, refl}
 use mathlib.Core.List.{List, [], _∷_, _++_}
 use lib.ListN.{replicate}
+use Rattle.numbers.specs.Below.{below}
 use Rattle.refusals.specs.declared.Refusal.{Refusal}
 use Rattle.refusals.specs.declared.Refusal.the-variants as Refusal
 use Rattle.qhs.specs.declared.Header.{Header}
-use Rattle.qhs.specs.Qhs.{each}
 use Rattle.text.specs.Text.{word, splice}
 use Rattle.qhs_writer.specs.declared.Wrote.the-variants as Wrote
 use Rattle.qhs_writer.specs.Writer.{Fields, fields, bytesOf, frontBytes, backBytes, headBytes, entryBytes, entriesBelow, fileOf, Page, page, writeOf}
@@ -80,5 +80,5 @@ Hold [] = Unit {0}
 Hold (s ∷ rest) = (writeOf (s .header) (s .given) (s .out) ≡ s .comes) × Hold rest
 
 pub samples-hold : Hold samples
-unfolding writeOf fileOf headBytes frontBytes backBytes bytesOf entryBytes entriesBelow each splice
+unfolding writeOf fileOf headBytes frontBytes backBytes bytesOf entryBytes entriesBelow below splice
 samples-hold = (refl, (refl, (refl, (refl, (refl, (refl, (refl, (refl, (refl, (refl, (refl, (refl, tt))))))))))))

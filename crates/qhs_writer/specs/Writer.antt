@@ -5,10 +5,11 @@ use mathlib.Core.Bool.{Bool, not}
 use mathlib.Core.List.{List, [], _∷_, _++_}
 use lib.Dec.{leb, ltb, eqb}
 use lib.ListN.{length, getD}
+use Rattle.numbers.specs.Below.{below}
 use Rattle.refusals.specs.Orders.{Rule, _gives_, orders, pick}
 use Rattle.refusals.specs.declared.Refusal.the-variants as Refusal
 use Rattle.qhs.specs.declared.Header.{Header}
-use Rattle.qhs.specs.Qhs.{mostBytes, version, mostFileCells, mostKind, each, openRefusals}
+use Rattle.qhs.specs.Qhs.{mostBytes, version, mostFileCells, mostKind, openRefusals}
 use Rattle.text.specs.Text.{word, splice}
 use Rattle.qhs_writer.specs.declared.Entry.{Entry}
 use Rattle.qhs_writer.specs.declared.Wrote.{Wrote}
@@ -81,7 +82,7 @@ abbrev pub known : List ℕ → ℕ → Bool
 known kinds k = leb (getD kinds k 0) mostKind
 
 abbrev pub allKnown : Fields → Bool
-allKnown f = each (count f) (known (f .kinds))
+allKnown f = below (count f) (known (f .kinds))
 
 -- Refusals: 16 (the file would pass 65,536 bytes), 13, 15, 1, 2, then 17 if the lent buffer is too short.
 abbrev pub writeRefusals : Header → Fields → List ℕ → List Rule

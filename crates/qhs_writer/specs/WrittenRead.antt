@@ -11,13 +11,14 @@ use lib.Dec.{eqb}
 use lib.ListN.{length, length-append}
 use borrow.Author.Tests.{le-ltb, le-leb, leb-true, eq-eqb}
 use Rattle.numbers.specs.Numbers.{mostProcesses, mostCells}
+use Rattle.numbers.specs.BelowLaws.{below-all, below-at}
 use Rattle.refusals.specs.Orders.{pick}
 use Rattle.qhs.specs.declared.Header.{Header}
 use Rattle.qhs.specs.declared.Reading.{Reading}
 use Rattle.qhs.specs.declared.Reading.the-variants as Reading
 use Rattle.qhs.specs.Qhs.{headerBytes, recordBytes, mostBytes, version, mostFileCells, mostKind, numberAt, marked, versionOf, headerOf}
 use Rattle.qhs.specs.Qhs.{fieldsAt, recordStart, recordAt, bodyBytes, recordsIn, kindFits, kindsFit, readOf}
-use Rattle.qhs.specs.Laws.{each-at, each-all, Words}
+use Rattle.qhs.specs.Laws.{Words}
 use Rattle.qhs_writer.specs.declared.Entry.{Entry}
 use Rattle.qhs_writer.specs.Writer.{Fields, count, entryAt, bytesOf, frontBytes, backBytes, headBytes, stepKind, writeKind, needed, entryBytes, entriesBelow, fileOf, known}
 use Rattle.qhs_writer.specs.Again.{readAs}
@@ -128,7 +129,7 @@ below-pick false x most z h = z
 
 module _ (h : Header) (f : Fields) (out : List ℕ) (t : Typed h f) (g : Fine h f out) where
   kind-low : (k : ℕ) → k < count f → entryAt f k .kind ≤ mostKind
-  kind-low k l = leb-true _ _ (each-at (count f) k (known (f .kinds)) l (g .known))
+  kind-low k l = leb-true _ _ (below-at (count f) k (known (f .kinds)) l (g .known))
 
   record-is : (k : ℕ) → k < count f → recordAt (fileOf h f) k ≡ readAs (needed (entryAt f k))
   unfolding recordAt fileOf
@@ -145,7 +146,7 @@ module _ (h : Header) (f : Fields) (out : List ℕ) (t : Typed h f) (g : Fine h 
 
   kinds-fit : kindsFit (fileOf h f) ≡ true
   kinds-fit =
-      each-all (recordsIn (fileOf h f)) (kindFits (fileOf h f))
+      below-all (recordsIn (fileOf h f)) (kindFits (fileOf h f))
       (λ k l.
       let few : k < count f = omega (arith, file-length h f) in
       rw (record-is k few) (le-leb _ _ (kind-low k few)))

@@ -1,8 +1,8 @@
 // The schedule file's writer, version 1: a header and records as bytes in a lent buffer, or the refusal.
 ghost use mathlib.Core.Path.{_≡_};
-ghost use Prim.Native.Nat.{_≤_, min};
+ghost use Prim.Native.Nat.{_≤_};
 ghost use lib.ListN.{length};
-ghost use Rattle.qhs.specs.Qhs.{each};
+ghost use Rattle.numbers.specs.Below.{below};
 ghost use Rattle.qhs_writer.specs.Writer.{fields, count, known, page, writeOf};
 
 mod put;
@@ -32,24 +32,18 @@ pub enum Wrote {
 // The records that a file of 65,536 bytes has.
 pub const FILE_RECORDS: usize = 8189;
 
-fn least(a: usize, b: usize) -> usize
-    ensures { λ r. ⌜ r ≡ min a b ⌝ }
-{
-    if a < b { a } else { b }
-}
-
 // As many records as the shortest slice has.
 fn count(kinds: &[u8], processes: &[u8], cells: &[u16], values: &[u32]) -> usize
     ensures { λ r. ⌜ r ≡ count (fields (now (kinds .entry)) (now (processes .entry)) (now (cells .entry)) (now (values .entry))) ⌝ }
 {
-    let ends = least(cells.len(), values.len());
-    least(kinds.len(), least(processes.len(), ends))
+    let ends = numbers::least(cells.len(), values.len());
+    numbers::least(kinds.len(), numbers::least(processes.len(), ends))
 }
 
 // Whether the first n kinds are known.
 fn known(kinds: &[u8], n: usize) -> bool
     requires { ⌜ n ≤ length (now kinds) ⌝ }
-    ensures { λ r. ⌜ r ≡ each n (known (now (kinds .entry))) ⌝ }
+    ensures { λ r. ⌜ r ≡ below n (known (now (kinds .entry))) ⌝ }
 {
     let mut k: usize = 0;
     while k < n {

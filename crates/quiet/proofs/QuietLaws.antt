@@ -6,16 +6,16 @@ use mathlib.Core.List.{List}
 use Prim.Native.Nat.{ℕ, _+_, _<_, _≤_}
 use native.Mathlib.Omega.{arith}
 use borrow.Author.Tests.{lt-ltb, le-ltb}
-use lib.ListN.{getD}
-use Rattle.numbers.specs.Numbers.{mostProcesses, fillOf, processOf}
+use Rattle.numbers.specs.Numbers.{mostProcesses, processOf}
 use Rattle.numbers.specs.declared.Cell.{Cell}
 use Rattle.numbers.specs.declared.Process.{Process}
+use Rattle.numbers.specs.Below.{below}
+use Rattle.numbers.specs.BelowLaws.{and-left, below-more}
 use Rattle.refusals.specs.Orders.{pick}
 use Rattle.lanes.specs.declared.Check.{Check}
 use Rattle.lanes.specs.declared.Check.the-variants as Check
 use Rattle.lanes.specs.declared.State.{State}
-use Rattle.lanes.specs.Ranges.{laneOf, idle, below, laneFits, sizesFit, stateFits}
-use Rattle.lanes.specs.Laws.{and-left, below-more}
+use Rattle.lanes.specs.Ranges.{laneOf, idle, laneFits, sizesFit, stateFits}
 use Rattle.lanes.specs.Scan.{Passed, passed-all}
 use Rattle.steps.specs.declared.Found.{Found}
 use Rattle.steps.specs.declared.Found.the-variants as Found

@@ -10,11 +10,11 @@ use borrow.Author.Tests.{lt-ltb, le-ltb, ne-eqb}
 use lib.Dec.{eqb}
 use lib.ListN.{length}
 use Rattle.numbers.specs.Numbers.{fillOf}
+use Rattle.numbers.specs.BelowLaws.{below-all}
 use Rattle.refusals.specs.Orders.{pick}
 use Rattle.refusals.specs.declared.Refusal.the-variants as Refusal
 use Rattle.lanes.specs.declared.State.{State}
 use Rattle.lanes.specs.Ranges.{laneOf, idle}
-use Rattle.lanes.specs.Laws.{below-all}
 use Rattle.steps.specs.Memory.{Memory}
 use Rattle.quiet.specs.declared.Scan.the-variants as Scan
 use Rattle.quiet.specs.Quiet.{atRest, scanOf}

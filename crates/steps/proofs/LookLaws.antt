@@ -4,7 +4,7 @@ use mathlib.Core.Path.{_≡_, refl, ap, sym, _∙_}
 use mathlib.Core.List.{List}
 use Prim.Native.Nat.{ℕ, _+_, _-_, _%_, _^_, _<_, _≤_}
 use native.Mathlib.Omega.{arith}
-use lib.ListN.{length, getD, take, drop, List·getD-eq-default, length-take, length-drop}
+use lib.ListN.{length, getD, take, drop, List·getD-eq-default, length-drop}
 use lib.Seq.{getD-take, getD-drop, length-take-le}
 use borrow.Author.Tests.{lt-ltb, le-ltb, eq-eqb, ne-eqb, ltb-true, ltb-false}
 use lib.Dec.{ltb}

@@ -1,14 +1,13 @@
 -- Each case of a step of an operation, as a law of its definition.
 -- Assumes nothing.
-use mathlib.Core.Path.{_≡_, refl, ap, sym, _∙_}
-use mathlib.Core.Bool.{Bool, true, false, _&&_}
+use mathlib.Core.Path.{_≡_, ap, sym, _∙_}
+use mathlib.Core.Bool.{Bool, true, false}
 use mathlib.Core.List.{List}
-use Prim.Native.Nat.{ℕ, _+_, _-_, _%_, _^_, _<_, _≤_}
+use Prim.Native.Nat.{ℕ, _+_, _-_, _%_, _<_, _≤_}
 use native.Mathlib.Omega.{arith}
-use lib.ListN.{length, getD}
-use lib.Dec.{ltb}
+use lib.ListN.{getD}
 use borrow.Author.Tests.{lt-ltb, le-ltb, eq-eqb, ne-eqb, leb-true}
-use Rattle.numbers.specs.Numbers.{tombstone, mostMarks, mostCells, mostSegments, poolWords, segmentOf, sizeOf, packOf, directoryWord}
+use Rattle.numbers.specs.Numbers.{tombstone, mostMarks, mostCells, mostSegments, segmentOf, sizeOf, packOf, directoryWord}
 use Rattle.numbers.specs.Laws.{segment-bounds, segment-few}
 use Rattle.numbers.specs.declared.Cell.{Cell}
 use Rattle.numbers.specs.declared.Place.{Place}

@@ -7,11 +7,11 @@ use native.Mathlib.Omega.{arith}
 use native.Mathlib.Numerals.{add-one}
 use native.Mathlib.Nat.{pow-succ'}
 use lib.ListN.{length, getD, take, drop, set, replicate, length-append, length-take, length-drop, length-set}
-use lib.Seq.{take-all, take-suc-set, take-append-seam, take-at, take-suc, take-length, drop-cons, drop-set-lt, getD-set-same}
+use lib.Seq.{take-all, take-suc-set, take-at, take-suc, drop-cons, drop-set-lt, getD-set-same}
 use Rattle.text.specs.Text.{digit, decimal, Placed, putOf}
 use Rattle.text.specs.Laws.{decimal-low, decimal-step}
 use Rattle.text.specs.declared.line.Line.{Line}
-use Rattle.text.specs.Inner.{room, soFar, cut, Grown, Made}
+use Rattle.text.specs.Inner.{room, soFar, cut, Grown}
 
 -- what was cut before is cut after
 pub cut-again : (n : ℕ) (xs ys : List ℕ) → take n (take n xs ++ ys) ≡ take n (xs ++ ys)

@@ -1,12 +1,12 @@
 -- Each case of putting bytes into a buffer, as a law of its definition.
 -- Assumes nothing.
-use Prim.Native.Nat.{ℕ, zero, suc, _+_, _-_, _<_, _≤_}
-use mathlib.Core.Path.{_≡_, refl, sym, ap, _∙_}
-use mathlib.Core.List.{List, [], _∷_, _++_, append-assoc}
+use Prim.Native.Nat.{ℕ, _+_, _-_, _<_, _≤_}
+use mathlib.Core.Path.{_≡_, ap, _∙_}
+use mathlib.Core.List.{List, append-assoc}
 use native.Mathlib.Omega.{arith}
 use native.Mathlib.Numerals.{add-one}
 use lib.ListN.{length, getD, take, drop, set}
-use lib.Seq.{paste, paste-zero, paste-suc, take-all}
+use lib.Seq.{paste, paste-suc, take-all}
 use borrow.Author.Tests.{le-leb, lt-leb}
 use Rattle.text.specs.declared.Put.the-variants as Put
 use Rattle.text.specs.Text.{splice, placed, putOf}

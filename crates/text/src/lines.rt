@@ -1,6 +1,6 @@
 // The lines of the program's output.
 ghost use mathlib.Core.Path.{_≡_};
-ghost use Rattle.text.specs.Text.{bit, two, three, answerLine, sizesLine, fileRefusedLine, refusedLine};
+ghost use Rattle.text.specs.Text.{bit, two, three, sizesLine, fileRefusedLine, refusedLine};
 ghost use lib.ListN.{length};
 ghost use Rattle.text.specs.Inner.{room, Grown, Made, Said, Answered};
 use super::line;

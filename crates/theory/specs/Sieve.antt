@@ -5,7 +5,7 @@ use mathlib.Core.Logic.{_⊎_, inl, inr, ⊎-elim}
 use mathlib.Core.Bool.{Bool}
 use mathlib.Core.List.{List, [], _∷_, List·Memᴰ, List·Memᴰ·head, List·Memᴰ·tail, List·Memᴰ·cases-cons}
 use Prim.Native.Nat.{ℕ}
-use Rattle.theory.specs.Array.{Op, read, asked, write, got, told, valueBy, writtenBy, value, written, answer}
+use Rattle.theory.specs.Array.{Op, read, asked, write, told, valueBy, writtenBy, value, written, answer}
 use Rattle.theory.specs.Order.{Done, Entry, deeds, Fits, Orderly, Is}
 use Rattle.theory.specs.Machine.{Grid, Link}
 use Rattle.theory.specs.OneOrder.{Pending, OneOrder}

@@ -4,7 +4,7 @@ use Prim.Native.Nat.{_≤_, _-_}
 use native.Mathlib.Omega.{arith}
 use borrow.Author.Needs.{needs}
 use Rattle.lanes.specs.Scan.{Passed, passed-none, passed-more, few-lanes}
-use Rattle.batch.proofs.BatchLaws.{fits-end}
+use Rattle.acts.proofs.StateLaws.{loop-end}
 use Rattle.batch.proofs.state_fits.Statement.{statement}
 use Rattle.batch.proofs.state_fits.Tie as tie
 
@@ -45,7 +45,7 @@ loop-again : tie.Need-loop-again Inv-loop μ-loop
 loop-again c = (omega arith, passed-more (c .before .before .before .before .before .before .before .args .t1) _ _ _ _ (c .before .before .before .before .loop .inv .1) (c .before .lane-fits .ensures) (c .both .ensures))
 
 returns : tie.Need-returns Inv-loop μ-loop
-returns c = fits-end (c .before .before .before .before .args .t1) _ _ _ _ (c .before .before .before .sizes-fit .ensures) (c .before .before .lanes-below .ensures .1) (c .before .loop .inv .0) (c .loop-test .left) (c .before .loop .inv .1)
+returns c = loop-end (c .before .before .before .before .args .t1) _ _ _ _ (c .before .before .before .sizes-fit .ensures) (c .before .before .lanes-below .ensures .1) (c .before .loop .inv .0) (c .loop-test .left) (c .before .loop .inv .1)
 
 pub state-fits-spec : {M : Type 1} → statement M
 state-fits-spec =

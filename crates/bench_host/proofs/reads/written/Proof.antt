@@ -1,6 +1,6 @@
 -- Seven steps are safe and end, and the lent lengths stay. Assumes nothing.
 use borrow.Author.Needs.{needs}
-use Prim.Native.Nat.{_-_, _<_, _≤_}
+use Prim.Native.Nat.{_-_, _≤_}
 use mathlib.Core.Path.{_≡_}
 use lib.ListN.{length}
 use Rattle.bench_host.proofs.reads.written.Statement.{statement}
