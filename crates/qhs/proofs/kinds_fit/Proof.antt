@@ -1,6 +1,5 @@
 -- `qhs::kinds_fit` meets its contract.
 -- Assumes nothing.
-use Rattle.qhs.proofs.FieldLaws.{kind-there}
 use Rattle.qhs.proofs.ReadLaws.{Known, known-none, known-next, known-all, unknown}
 use Prim.Native.Nat.{_≤_, _-_}
 use native.Mathlib.Omega.{arith}
@@ -17,14 +16,11 @@ abbrev μ-loop : tie.MeasureT-loop
 loop-holds : tie.Need-loop-holds Inv-loop μ-loop
 loop-holds c = (omega arith, known-none _)
 
-start-of-requires : tie.Need-start-of-requires Inv-loop μ-loop
-start-of-requires c κs = search needs
-
-byte-at-requires : tie.Need-byte-at-requires Inv-loop μ-loop
-byte-at-requires c κs = search needs
+record-at-requires : tie.Need-record-at-requires Inv-loop μ-loop
+record-at-requires c κs = search needs
 
 returns : tie.Need-returns Inv-loop μ-loop
-returns c = search (unknown, kind-there)
+returns c = search (unknown)
 
 add-k : tie.Need-add-k Inv-loop μ-loop
 add-k c = omega arith
@@ -33,7 +29,7 @@ loop-less : tie.Need-loop-less Inv-loop μ-loop
 loop-less c = omega arith
 
 loop-again : tie.Need-loop-again Inv-loop μ-loop
-loop-again c = (omega arith, search (known-next, kind-there))
+loop-again c = (omega arith, search (known-next))
 
 returns-2 : tie.Need-returns-2 Inv-loop μ-loop
 returns-2 c = search (known-all)
@@ -45,8 +41,7 @@ kinds-fit-spec =
     Inv-loop
     μ-loop
     loop-holds
-    start-of-requires
-    byte-at-requires
+    record-at-requires
     returns
     add-k
     loop-less
