@@ -2,7 +2,7 @@
 -- Assumes nothing.
 use mathlib.Core.Path.{_≡_, refl, sym, ap, _∙_}
 use mathlib.Core.Bool.{Bool, true, false}
-use mathlib.Core.List.{List, [], _∷_}
+use mathlib.Core.List.{List}
 use Prim.Native.Nat.{ℕ, _+_, _-_, _*_, _/_, _^_, _<_, _≤_}
 use native.Mathlib.Nat.{pow-succ', pow-le-pow-right}
 use native.Mathlib.Numerals.{add-one}
@@ -107,25 +107,14 @@ module _ (s : List ℕ) (k at : ℕ) (start : at ≡ startIn (length s) k) where
   there : fieldsAt s at ≡ recordAt s k
   there = ap (λ (x : ℕ). fieldsAt s x) start ∙ fields-start s k (leb (recordStart k) (length s)) refl
 
-  record-there : (kind process cell value : ℕ) → kind ≡ byteAt s at → process ≡ byteAt s (at + 1) → cell ≡ numberAt s (at + 2) 2 → value ≡ numberAt s (at + 4) 4
+  pub record-there : (kind process cell value : ℕ) → kind ≡ byteAt s at → process ≡ byteAt s (at + 1) → cell ≡ numberAt s (at + 2) 2 → value ≡ numberAt s (at + 4) 4
       → record { kind = kind; process = process; cell = cell; value = value } ≡ recordAt s k
   record-there kind process cell value a b c d =
       rw (a, b, c, d, ← number-one s at, ← number-one s (at + 1)) there
 
-  -- a record's fields, in the eight bytes that it is copied into
-  pub record-copied : (a b c d e f g h cell value : ℕ) → a ≡ byteAt s at → b ≡ byteAt s (at + 1) → c ≡ byteAt s (at + 2) → d ≡ byteAt s (at + 3)
-      → e ≡ byteAt s (at + 4) → f ≡ byteAt s (at + 5) → g ≡ byteAt s (at + 6) → h ≡ byteAt s (at + 7)
-      → cell ≡ numberAt (a ∷ b ∷ c ∷ d ∷ e ∷ f ∷ g ∷ h ∷ []) 2 2 → value ≡ numberAt (a ∷ b ∷ c ∷ d ∷ e ∷ f ∷ g ∷ h ∷ []) 4 4
-      → record { kind = a; process = b; cell = cell; value = value } ≡ recordAt s k
-  unfolding numberAt
-  record-copied a b c d e f g h cell value ea eb ec ed ee ef eg eh is-cell is-value =
-      let three : at + 2 + 1 ≡ at + 3 = omega arith in
-      let five : at + 4 + 1 ≡ at + 5 = omega arith in
-      let six : at + 4 + 2 ≡ at + 6 = omega arith in
-      let seven : at + 4 + 3 ≡ at + 7 = omega arith in
-      let low = cell-is s (at + 2) c d c d ec (rw three ed) refl refl in
-      let high = value-is s (at + 4) e f g h e f g h ee (rw five ef) (rw six eg) (rw seven eh) refl refl refl refl in
-      record-there a b cell value ea eb (omega arith) (omega arith)
+  pub kind-there : (kind : ℕ) → kind ≡ byteAt s at → kind ≡ recordAt s k .kind
+  kind-there kind e =
+      e ∙ sym (number-one s at) ∙ ap (λ (r : Record). r .kind) there
 
 -- ---- the mark
 

@@ -14,7 +14,6 @@ use Rattle.numbers.specs.BelowLaws.{below-fails, below-next}
 use Rattle.refusals.specs.declared.Refusal.{Refusal}
 use Rattle.refusals.specs.declared.Refusal.the-variants as Refusal
 use Rattle.qhs.specs.declared.Header.{Header}
-use Rattle.qhs.specs.declared.Record.{Record}
 use Rattle.qhs.specs.declared.Reading.{Reading}
 use Rattle.qhs.specs.declared.Reading.the-variants as Reading
 use Rattle.qhs.specs.Qhs.{headerBytes, recordBytes, mostBytes, version, mostFileCells, mostKind}
@@ -30,11 +29,11 @@ pub known-none : (s : List ℕ) → Known s 0
 unfolding below
 known-none s = refl
 
-module _ (s : List ℕ) (k : ℕ) (r : Record) (is : r ≡ recordAt s k) where
-  pub known-next : Known s k → r .kind ≤ mostKind → Known s (k + 1)
+module _ (s : List ℕ) (k kind : ℕ) (is : kind ≡ recordAt s k .kind) where
+  pub known-next : Known s k → kind ≤ mostKind → Known s (k + 1)
   known-next h low = below-next k (kindFits s) h (le-leb _ _ (rw is at low))
 
-  pub unknown : (n : ℕ) → k < n → mostKind < r .kind → false ≡ below n (kindFits s)
+  pub unknown : (n : ℕ) → k < n → mostKind < kind → false ≡ below n (kindFits s)
   unknown n h high = sym (below-fails n k (kindFits s) h (lt-leb _ _ (rw is at high)))
 
 pub known-all : (s : List ℕ) (k n : ℕ) → Known s k → k ≤ n → n ≤ k → true ≡ below n (kindFits s)

@@ -84,21 +84,11 @@ pub fn record_at(bytes: &[u8], k: usize) -> Record
     ensures { λ r. ⌜ r ≡ recordAt (now (bytes .entry)) k ⌝ }
 {
     let at = fields::start_of(bytes.len(), k);
-    let own = [
-        fields::byte_at(bytes, at),
-        fields::byte_at(bytes, at + 1),
-        fields::byte_at(bytes, at + 2),
-        fields::byte_at(bytes, at + 3),
-        fields::byte_at(bytes, at + 4),
-        fields::byte_at(bytes, at + 5),
-        fields::byte_at(bytes, at + 6),
-        fields::byte_at(bytes, at + 7),
-    ];
     Record {
-        kind: own[0],
-        process: own[1],
-        cell: fields::cell_at(&own, 2),
-        value: fields::value_at(&own, 4),
+        kind: fields::byte_at(bytes, at),
+        process: fields::byte_at(bytes, at + 1),
+        cell: fields::cell_at(bytes, at + 2),
+        value: fields::value_at(bytes, at + 4),
     }
 }
 
@@ -108,8 +98,8 @@ fn kinds_fit(bytes: &[u8], n: usize) -> bool
 {
     let mut k: usize = 0;
     while k < n {
-        let r = record_at(bytes, k);
-        if LAST_KIND < r.kind {
+        let at = fields::start_of(bytes.len(), k);
+        if LAST_KIND < fields::byte_at(bytes, at) {
             return false;
         }
         k = k + 1;

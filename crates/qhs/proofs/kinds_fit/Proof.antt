@@ -1,5 +1,6 @@
 -- `qhs::kinds_fit` meets its contract.
 -- Assumes nothing.
+use Rattle.qhs.proofs.FieldLaws.{kind-there}
 use Rattle.qhs.proofs.ReadLaws.{Known, known-none, known-next, known-all, unknown}
 use Prim.Native.Nat.{_≤_, _-_}
 use native.Mathlib.Omega.{arith}
@@ -16,11 +17,14 @@ abbrev μ-loop : tie.MeasureT-loop
 loop-holds : tie.Need-loop-holds Inv-loop μ-loop
 loop-holds c = (omega arith, known-none _)
 
-record-at-requires : tie.Need-record-at-requires Inv-loop μ-loop
-record-at-requires c κs = search needs
+start-of-requires : tie.Need-start-of-requires Inv-loop μ-loop
+start-of-requires c κs = search needs
+
+byte-at-requires : tie.Need-byte-at-requires Inv-loop μ-loop
+byte-at-requires c κs = search needs
 
 returns : tie.Need-returns Inv-loop μ-loop
-returns c = search (unknown)
+returns c = search (unknown, kind-there)
 
 add-k : tie.Need-add-k Inv-loop μ-loop
 add-k c = omega arith
@@ -29,7 +33,7 @@ loop-less : tie.Need-loop-less Inv-loop μ-loop
 loop-less c = omega arith
 
 loop-again : tie.Need-loop-again Inv-loop μ-loop
-loop-again c = (omega arith, search (known-next))
+loop-again c = (omega arith, search (known-next, kind-there))
 
 returns-2 : tie.Need-returns-2 Inv-loop μ-loop
 returns-2 c = search (known-all)
@@ -41,7 +45,8 @@ kinds-fit-spec =
     Inv-loop
     μ-loop
     loop-holds
-    record-at-requires
+    start-of-requires
+    byte-at-requires
     returns
     add-k
     loop-less
