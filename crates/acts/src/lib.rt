@@ -1,6 +1,5 @@
-// The calls: what open, begin and step determine, and what each does to one lane, the pool's top and the memories.
+// The calls: what open, begin and step determine; open's refusals, and a begin on one lane.
 pub mod begins;
-pub mod judged;
 pub mod opens;
 
 use lanes::Lane;

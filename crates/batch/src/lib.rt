@@ -11,7 +11,6 @@ use acts::Acted;
 use acts::Answer;
 use acts::Ask;
 use acts::begins;
-use acts::judged;
 use lanes::Lane;
 use lanes::State;
 use numbers::Cell;

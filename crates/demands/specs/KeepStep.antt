@@ -9,7 +9,7 @@ use lib.ListN.{length-set}
 use Rattle.numbers.specs.Numbers.{offsetOf}
 use Rattle.lanes.specs.Ranges.{laneOf}
 use Rattle.steps.specs.Changes.{laneAfter, topAfter, memoryAfter}
-use Rattle.acts.proofs.NewLaws.{same-steps}
+use Rattle.steps.specs.ChangeLaws.{same-steps}
 use Rattle.acts.specs.Calls.{cellOf, advance, answerOf, settled}
 use Rattle.theory.specs.Interface as Theory
 use Rattle.demands.specs.Types.{Op, Lane, State, Memory, Change, Next, Turn, Ask}

@@ -7,7 +7,6 @@ use acts::Opened;
 use acts::Opening;
 use acts::Stepped;
 use acts::begins;
-use acts::judged;
 use acts::opens;
 use lanes::State;
 use numbers::Process;

@@ -1,3 +1,2 @@
 pub mod LookLaws
-pub mod WriteLaws
 pub mod StoreLaws

@@ -2,7 +2,7 @@
 -- Assumes nothing.
 use mathlib.Core.Path.{_≡_, refl, ap, sym, _∙_}
 use mathlib.Core.List.{List}
-use Prim.Native.Nat.{ℕ, _+_, _-_, _%_, _^_, _<_, _≤_}
+use Prim.Native.Nat.{ℕ, _+_, _-_, _%_, _<_, _≤_}
 use native.Mathlib.Omega.{arith}
 use lib.ListN.{length, getD, take, drop, List·getD-eq-default, length-drop}
 use lib.Seq.{getD-take, getD-drop, length-take-le}
@@ -10,7 +10,7 @@ use borrow.Author.Tests.{lt-ltb, le-ltb, eq-eqb, ne-eqb, ltb-true, ltb-false}
 use lib.Dec.{ltb}
 use mathlib.Core.Bool.{Bool, true, false}
 use Rattle.numbers.specs.Numbers.{processOf, placeOf, segmentOf, offsetOf, sizeOf, directoryWord}
-use Rattle.numbers.specs.Laws.{segment-bounds, offset-below, size-least, size-word}
+use Rattle.numbers.specs.Laws.{offset-below, size-least, size-word}
 use Rattle.numbers.specs.declared.Place.{Place}
 use Rattle.numbers.specs.declared.Process.{Process}
 use Rattle.lanes.specs.declared.Check.{Check}
@@ -36,13 +36,6 @@ module _ (part : List ℕ) (at : ℕ) where
   word-past h = simp (le-ltb _ _ h)
 
 -- a size that a word of 64 bits holds is the segment's own
-pub size-is : (n s z : ℕ) → n < 18446744073709551614 → s ≡ segmentOf n → z ≡ sizeOf s % 18446744073709551616 → z ≡ sizeOf (segmentOf n)
-unfolding sizeOf
-size-is n s z h e f =
-    let b = segment-bounds n .0 in
-    let g : z ≡ 2 ^ (segmentOf n + 1) % 18446744073709551616 = f ∙ rw e in
-    omega arith
-
 module _ (len from n s : ℕ) (h : from < len) (e : s ≡ segmentOf n) where
   size-at : sizeOf s ≡ sizeOf (segmentOf n)
   size-at = rw e

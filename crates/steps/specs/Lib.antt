@@ -1,4 +1,5 @@
 pub mod Memory
 pub mod Steps
 pub mod Changes
+pub mod ChangeLaws
 pub mod Inner

@@ -1,0 +1,91 @@
+-- `judged::change_fits` meets its contract.
+-- Assumes nothing.
+use Rattle.judged.proofs.ActLaws.{marks-few, top-few, top-many}
+use borrow.Author.Needs.{needs}
+use Rattle.judged.proofs.change_fits.Statement.{statement}
+use Rattle.judged.proofs.change_fits.Tie as tie
+
+enum-told : tie.Need-enum-told
+enum-told c = search needs
+
+enum-told-2 : tie.Need-enum-told-2
+enum-told-2 c = search needs
+
+enum-told-3 : tie.Need-enum-told-3
+enum-told-3 c = search needs
+
+enum-told-4 : tie.Need-enum-told-4
+enum-told-4 c = search needs
+
+enum-told-5 : tie.Need-enum-told-5
+enum-told-5 c = search needs
+
+enum-known-change : tie.Need-enum-known-change
+enum-known-change c = search needs
+
+cast-result : tie.Need-cast-result
+cast-result c = search needs
+
+most-marks-requires : tie.Need-most-marks-requires
+most-marks-requires c κs = search needs
+
+enum-known-change-2 : tie.Need-enum-known-change-2
+enum-known-change-2 c = search needs
+
+cast-if1 : tie.Need-cast-if1
+cast-if1 c = search needs
+
+pool-words-requires : tie.Need-pool-words-requires
+pool-words-requires c κs = search needs
+
+cast-result-2 : tie.Need-cast-result-2
+cast-result-2 c = search needs
+
+returns : tie.Need-returns
+returns c = search needs
+
+returns-2 : tie.Need-returns-2
+returns-2 c = search needs
+
+returns-3 : tie.Need-returns-3
+returns-3 c = search needs
+
+returns-4 : tie.Need-returns-4
+returns-4 c = search needs
+
+returns-5 : tie.Need-returns-5
+returns-5 c = search needs
+
+returns-6 : tie.Need-returns-6
+returns-6 c = search (marks-few)
+
+returns-7 : tie.Need-returns-7
+returns-7 c = search (top-few)
+
+returns-8 : tie.Need-returns-8
+returns-8 c = search (top-many)
+
+pub change-fits-spec : {M : Type 1} → statement M
+change-fits-spec =
+    tie.close
+    (tie.spec
+    enum-told
+    enum-told-2
+    enum-told-3
+    enum-told-4
+    enum-told-5
+    enum-known-change
+    cast-result
+    most-marks-requires
+    enum-known-change-2
+    cast-if1
+    pool-words-requires
+    cast-result-2
+    returns
+    returns-2
+    returns-3
+    returns-4
+    returns-5
+    returns-6
+    returns-7
+    returns-8)

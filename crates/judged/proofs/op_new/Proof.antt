@@ -1,0 +1,55 @@
+-- `judged::op_new` meets its contract.
+-- Assumes nothing.
+use Rattle.judged.proofs.ActLaws.{new-arm}
+use borrow.Author.Needs.{needs}
+use Rattle.judged.proofs.op_new.Statement.{statement}
+use Rattle.judged.proofs.op_new.Tie as tie
+
+enum-told : tie.Need-enum-told
+enum-told c = search needs
+
+enum-told-2 : tie.Need-enum-told-2
+enum-told-2 c = search needs
+
+enum-told-3 : tie.Need-enum-told-3
+enum-told-3 c = search needs
+
+enum-told-4 : tie.Need-enum-told-4
+enum-told-4 c = search needs
+
+enum-known-o : tie.Need-enum-known-o
+enum-known-o c = search needs
+
+stage-new-requires : tie.Need-stage-new-requires
+stage-new-requires c κs = search needs
+
+returns : tie.Need-returns
+returns c = search needs
+
+returns-2 : tie.Need-returns-2
+returns-2 c = search needs
+
+returns-3 : tie.Need-returns-3
+returns-3 c = search needs
+
+returns-4 : tie.Need-returns-4
+returns-4 c = search needs
+
+returns-5 : tie.Need-returns-5
+returns-5 c = search (new-arm)
+
+pub op-new-spec : {M : Type 1} → statement M
+op-new-spec =
+    tie.close
+    (tie.spec
+    enum-told
+    enum-told-2
+    enum-told-3
+    enum-told-4
+    enum-known-o
+    stage-new-requires
+    returns
+    returns-2
+    returns-3
+    returns-4
+    returns-5)

@@ -1,0 +1,75 @@
+-- `turns::turn_of` meets its contract.
+-- Assumes nothing.
+use Rattle.turns.proofs.WriteLaws.{op-arm, op-read, op-reading, op-asked, op-write}
+use borrow.Author.Needs.{needs}
+use Rattle.turns.proofs.turn_of.Statement.{statement}
+use Rattle.turns.proofs.turn_of.Tie as tie
+
+enum-told : tie.Need-enum-told
+enum-told c = search needs
+
+enum-known-o : tie.Need-enum-known-o
+enum-known-o c = search needs
+
+check-requires : tie.Need-check-requires
+check-requires c κs = search needs
+
+read-turn-requires : tie.Need-read-turn-requires
+read-turn-requires c κs = search needs
+
+enum-known-o-2 : tie.Need-enum-known-o-2
+enum-known-o-2 c = search needs
+
+written-read-requires : tie.Need-written-read-requires
+written-read-requires c κs = search needs
+
+enum-known-o-3 : tie.Need-enum-known-o-3
+enum-known-o-3 c = search needs
+
+check-requires-2 : tie.Need-check-requires-2
+check-requires-2 c κs = search needs
+
+asked-turn-requires : tie.Need-asked-turn-requires
+asked-turn-requires c κs = search needs
+
+enum-known-o-4 : tie.Need-enum-known-o-4
+enum-known-o-4 c = search needs
+
+write-turn-requires : tie.Need-write-turn-requires
+write-turn-requires c κs = search (op-write)
+
+returns : tie.Need-returns
+returns c = search (op-arm)
+
+returns-2 : tie.Need-returns-2
+returns-2 c = search (op-read)
+
+returns-3 : tie.Need-returns-3
+returns-3 c = search (op-reading)
+
+returns-4 : tie.Need-returns-4
+returns-4 c = search (op-asked)
+
+returns-5 : tie.Need-returns-5
+returns-5 c = search (op-arm)
+
+pub turn-of-spec : {M : Type 1} → statement M
+turn-of-spec =
+    tie.close
+    (tie.spec
+    enum-told
+    enum-known-o
+    check-requires
+    read-turn-requires
+    enum-known-o-2
+    written-read-requires
+    enum-known-o-3
+    check-requires-2
+    asked-turn-requires
+    enum-known-o-4
+    write-turn-requires
+    returns
+    returns-2
+    returns-3
+    returns-4
+    returns-5)

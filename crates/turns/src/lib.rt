@@ -1,0 +1,80 @@
+// One step of an operation, as the step list says: the word that it changes, and what comes next.
+ghost use mathlib.Core.Path.{_≡_};
+ghost use mathlib.Core.Bool.{true};
+ghost use Rattle.lanes.specs.Ranges.{laneFits, sizesFit};
+ghost use Rattle.steps.specs.Memory.{memory};
+ghost use Rattle.steps.specs.Steps.{goes, readTurn, askedTurn, turnOf};
+
+mod write;
+
+use lanes::Lane;
+use lanes::Op;
+use numbers::Cell;
+use numbers::Process;
+use steps::Change;
+use steps::Found;
+use steps::Next;
+use steps::Sizes;
+use steps::Turn;
+use steps::look;
+
+fn goes(o: Op) -> Turn
+    ensures { λ r. ⌜ r ≡ goes o ⌝ }
+{
+    Turn::Turned(Change::Nothing, Next::Going(o))
+}
+
+fn read_turn(first: u32, step: u32, i: Cell, found: Found) -> Turn
+    ensures { λ r. ⌜ r ≡ readTurn first step i found ⌝ }
+{
+    match found {
+        Found::Outside => Turn::Outside,
+        Found::On(c) => goes(Op::Read(i, c)),
+        Found::NotWritten(_) => Turn::Turned(
+            Change::Nothing,
+            steps::not_written_read(first, step, i),
+        ),
+        Found::Written => goes(Op::Reading(i)),
+    }
+}
+
+fn asked_turn(i: Cell, found: Found) -> Turn
+    ensures { λ r. ⌜ r ≡ askedTurn i found ⌝ }
+{
+    match found {
+        Found::Outside => Turn::Outside,
+        Found::On(c) => goes(Op::Asked(i, c)),
+        Found::NotWritten(_) => Turn::Turned(Change::Nothing, Next::Asked(false)),
+        Found::Written => Turn::Turned(Change::Nothing, Next::Asked(true)),
+    }
+}
+
+// One step of process q, whose lane is l. `seen` is the marks in force that (b) reads: those of the process that the link names.
+pub fn turn_of(
+    z: Sizes,
+    q: Process,
+    l: Lane,
+    seen: u32,
+    readings: &[u32],
+    links: &[u64],
+    directory: &[u32],
+    pool: &[u32],
+) -> Turn
+    requires { ⌜ (sizesFit (z .p) (z .m) (z .top) ≡ true) × (laneFits (z .p) (z .m) l ≡ true) ⌝ }
+    ensures { λ r. ⌜ r ≡ turnOf z (q .0) l seen (memory (now (readings .entry)) (now (links .entry)) (now (directory .entry)) (now (pool .entry))) ⌝ }
+{
+    let o = l.op;
+    match o {
+        Op::Idle => Turn::Outside,
+        Op::Read(i, c) => {
+            let found = look::check(z.p, seen, links, directory, pool, i, c);
+            read_turn(z.first, z.step, i, found)
+        }
+        Op::Reading(i) => Turn::Turned(Change::Nothing, steps::written_read(readings, i)),
+        Op::Asked(i, c) => {
+            let found = look::check(z.p, seen, links, directory, pool, i, c);
+            asked_turn(i, found)
+        }
+        Op::Write(i, t) => write::write_turn(z, q, l, seen, links, directory, pool, i, t),
+    }
+}
