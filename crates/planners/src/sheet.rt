@@ -6,8 +6,10 @@ ghost use Rattle.play.specs.Play.{filled};
 ghost use Rattle.planners.specs.Sheet.{left, sheetOf};
 ghost use Rattle.planners.specs.Inner.{Small};
 use planners_text::Wrote;
+use play::CELL_WORDS;
+use play::DIRECTORY_WORDS;
+use play::POOL_WORDS;
 use play::ends;
-use play::fills;
 use qhs::Header;
 use qhs::Reading;
 use text::Put;
@@ -40,10 +42,10 @@ fn schedule(bytes: &[u8], h: Header, n: usize, out: &mut [u8]) -> Put
 {
     let fill = h.fill;
     let low = (fill % 4294967296) as u32;
-    let mut readings = fills::readings(low);
-    let mut links = fills::links(fill);
-    let mut directory = fills::directory(low);
-    let mut pool = fills::pool(low);
+    let mut readings = [low; CELL_WORDS];
+    let mut links = [fill; CELL_WORDS];
+    let mut directory = [low; DIRECTORY_WORDS];
+    let mut pool = [low; POOL_WORDS];
     let cells = h.m as usize;
     let entries = numbers::directory_words(h.p);
     let words = numbers::pool_words(h.p, h.m);

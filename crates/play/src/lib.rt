@@ -6,15 +6,24 @@ ghost use Rattle.play.specs.Play.{filled, scheduleText, put, playOf};
 ghost use Rattle.play.specs.Inner.{Ready};
 
 pub mod ends;
-pub mod fills;
 mod lists;
 
+use numbers::LANES;
+use numbers::SEGMENTS;
+use qhs::FILE_CELLS;
 use qhs::Header;
 use qhs::Reading;
 use text::Put;
 
 // The room that the longest output takes: 8,190 lines of 27 bytes.
 pub const OUTPUT: usize = 221130;
+
+// The memories of the largest grid that a file asks for.
+pub const CELL_WORDS: usize = FILE_CELLS as usize;
+
+pub const DIRECTORY_WORDS: usize = (SEGMENTS as usize) * LANES;
+
+pub const POOL_WORDS: usize = 4 * CELL_WORDS + 2 * LANES;
 
 // Plays n records on a grid in the lent memories.
 fn run(
@@ -51,10 +60,10 @@ fn schedule(bytes: &[u8], h: Header, n: usize, out: &mut [u8]) -> Put
 {
     let fill = h.fill;
     let low = (fill % 4294967296) as u32;
-    let mut readings = fills::readings(low);
-    let mut links = fills::links(fill);
-    let mut directory = fills::directory(low);
-    let mut pool = fills::pool(low);
+    let mut readings = [low; CELL_WORDS];
+    let mut links = [fill; CELL_WORDS];
+    let mut directory = [low; DIRECTORY_WORDS];
+    let mut pool = [low; POOL_WORDS];
     let cells = h.m as usize;
     let entries = numbers::directory_words(h.p);
     let words = numbers::pool_words(h.p, h.m);

@@ -11,18 +11,6 @@ use Rattle.play.proofs.schedule.Tie as tie
 cast-low : tie.Need-cast-low
 cast-low c = search needs
 
-readings-requires : tie.Need-readings-requires
-readings-requires c κs = search needs
-
-links-requires : tie.Need-links-requires
-links-requires c κs = search needs
-
-directory-requires : tie.Need-directory-requires
-directory-requires c κs = search needs
-
-pool-requires : tie.Need-pool-requires
-pool-requires c κs = search needs
-
 cast-cells : tie.Need-cast-cells
 cast-cells c = search needs
 
@@ -36,25 +24,25 @@ array-borrow-prefix-readings : tie.Need-array-borrow-prefix-readings
 array-borrow-prefix-readings c = search needs
 
 slice-aggregate-run : tie.Need-slice-aggregate-run
-slice-aggregate-run c = part-length _ 2040 _ _ (c .before .before .before .before .before .before .before .readings .ensures) (omega arith)
+slice-aggregate-run c = part-length _ 2040 _ (omega arith)
 
 array-borrow-prefix-links : tie.Need-array-borrow-prefix-links
 array-borrow-prefix-links c = search needs
 
 slice-aggregate-run-2 : tie.Need-slice-aggregate-run-2
-slice-aggregate-run-2 c = part-length _ 2040 _ _ (c .before .before .before .before .before .before .before .links .ensures) (omega arith)
+slice-aggregate-run-2 c = part-length _ 2040 _ (omega arith)
 
 array-borrow-prefix-directory : tie.Need-array-borrow-prefix-directory
 array-borrow-prefix-directory c = search needs
 
 slice-aggregate-run-3 : tie.Need-slice-aggregate-run-3
-slice-aggregate-run-3 c = part-length _ 272 _ _ (c .before .before .before .before .before .before .before .directory .ensures) (omega arith)
+slice-aggregate-run-3 c = part-length _ 272 _ (omega arith)
 
 array-borrow-prefix-pool : tie.Need-array-borrow-prefix-pool
 array-borrow-prefix-pool c = search needs
 
 slice-aggregate-run-4 : tie.Need-slice-aggregate-run-4
-slice-aggregate-run-4 c = part-length _ 8192 _ _ (c .before .before .before .before .before .before .before .pool .ensures) (omega arith)
+slice-aggregate-run-4 c = part-length _ 8192 _ (omega arith)
 
 run-requires : tie.Need-run-requires
 run-requires c κs = search needs
@@ -66,10 +54,9 @@ returns : tie.Need-returns
 returns c =
     let d = c .before .before .before .before .before .before in
     let e = d .before .before .before .before .before .before in
-    let f = e .before .before .before in
-    let s = f .before .before .before .before .before .before in
+    let s = e .before .before .before .before .before in
     schedule-is _ _ (s .args .h) _ _ _
-    (filled-is (s .args .h) 2040 2040 272 8192 _ _ _ _ _ _ (s .pre .p-high) (s .pre .m-high) refl refl refl refl (f .before .before .before .readings .ensures) (f .before .before .links .ensures) (f .before .directory .ensures) (f .pool .ensures) (e .before .directory-words .ensures) (e .pool-words .ensures))
+    (filled-is (s .args .h) 2040 272 8192 _ _ (s .pre .p-high) (s .pre .m-high) refl refl refl (e .before .directory-words .ensures) (e .pool-words .ensures))
     (d .run .ensures)
 
 pub schedule-spec : {M : Type 1} → statement M
@@ -77,10 +64,6 @@ schedule-spec =
     tie.close
     (tie.spec
     cast-low
-    readings-requires
-    links-requires
-    directory-requires
-    pool-requires
     cast-cells
     directory-words-requires
     pool-words-requires
