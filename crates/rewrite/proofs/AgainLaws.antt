@@ -84,17 +84,14 @@ module _ (bytes : List ℕ) (n : ℕ) (kinds processes cells values : List ℕ) 
 -- ---- room for the fields
 
 -- the first n elements of a slice that has more
-pub part-length : (n v : ℕ) (xs : List ℕ) → xs ≡ replicate 8189 v → n ≤ 8189 → n ≡ length (take n xs)
-part-length n v xs e h = sym (length-take-le n xs (omega (arith, ap length e, length-replicate 8189 v)))
+pub part-length : (n most v : ℕ) → n ≤ most → n ≡ length (take n (replicate most v))
+part-length n most v h = sym (length-take-le n (replicate most v) (omega (arith, length-replicate most v)))
 
-pub room-for : (n v w x y : ℕ) (kinds processes cells values : List ℕ) → n ≤ 8189 → kinds ≡ replicate 8189 v → processes ≡ replicate 8189 w
-    → cells ≡ replicate 8189 x → values ≡ replicate 8189 y → Room n (take n kinds) (take n processes) (take n cells) (take n values)
-room-for n v w x y kinds processes cells values h ek ep ec ev = record {
-  for-kinds = sym (part-length n v kinds ek h);
-  for-processes = sym (part-length n w processes ep h);
-  for-cells = sym (part-length n x cells ec h);
-  for-values = sym (part-length n y values ev h);
-}
+pub room-for : (n most : ℕ) → n ≤ most
+    → Room n (take n (replicate most 0)) (take n (replicate most 0)) (take n (replicate most 0)) (take n (replicate most 0))
+room-for n most h =
+    let e = sym (part-length n most 0 h) in
+    record { for-kinds = e; for-processes = e; for-cells = e; for-values = e }
 
 -- ---- what is shown
 

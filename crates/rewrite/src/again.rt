@@ -6,9 +6,9 @@ ghost use Rattle.qhs_writer.specs.Writer.{fields};
 ghost use Rattle.qhs_writer.specs.Again.{fieldsOf};
 ghost use Rattle.rewrite.specs.Again.{written, againOf};
 ghost use Rattle.rewrite.specs.Inner.{Room};
-use super::room;
 use qhs::Header;
 use qhs::Reading;
+use qhs_writer::FILE_RECORDS;
 use qhs_writer::Wrote;
 use text::Put;
 
@@ -57,14 +57,15 @@ fn run(
     }
 }
 
+// Lends room for the fields of the records of the longest file.
 fn schedule(bytes: &[u8], h: Header, n: usize, out: &mut [u8]) -> Put
     requires { ⌜ n ≤ 8189 ⌝ }
     ensures { λ r. ⌜ placed r (now (out .exit)) ≡ written (now (bytes .entry)) h n (now (out .entry)) ⌝ }
 {
-    let mut kinds = room::bytes(0);
-    let mut processes = room::bytes(0);
-    let mut cells = room::cells(0);
-    let mut values = room::values(0);
+    let mut kinds = [0u8; FILE_RECORDS];
+    let mut processes = [0u8; FILE_RECORDS];
+    let mut cells = [0u16; FILE_RECORDS];
+    let mut values = [0u32; FILE_RECORDS];
     run(
         bytes,
         h,

@@ -1,6 +1,5 @@
 // The rewriting program: one schedule file from standard input, the same file to standard output with the ignored fields put to zero.
 mod again;
-mod room;
 
 use libc::STDIN_FILENO;
 use libc::STDOUT_FILENO;
