@@ -119,6 +119,7 @@ pub fn fill(first: u32, step: u32, i: Cell) -> u32
     std::num::wrapping_add_u32(first, wrapping_mul(step, i.0))
 }
 
+// The lesser of two lengths.
 pub fn least(a: usize, b: usize) -> usize
     ensures { λ r. ⌜ r ≡ min a b ⌝ }
 {
