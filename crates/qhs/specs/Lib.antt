@@ -1,3 +1,4 @@
 pub mod Qhs
 pub mod Inner
 pub mod Laws
+pub mod Parts

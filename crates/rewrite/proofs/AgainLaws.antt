@@ -5,8 +5,8 @@ use mathlib.Core.Path.{_≡_, refl, sym, ap, _∙_}
 use mathlib.Core.List.{List}
 use native.Mathlib.Omega.{arith}
 use native.Mathlib.Numerals.{add-one}
-use lib.ListN.{length, take, set, replicate, length-set, length-replicate}
-use lib.Seq.{take-suc-set, take-all, length-take-le}
+use lib.ListN.{length, take, set, replicate, length-set}
+use lib.Seq.{take-suc-set, take-all}
 use Rattle.refusals.specs.declared.Refusal.{Refusal}
 use Rattle.qhs.specs.declared.Header.{Header}
 use Rattle.qhs.specs.declared.Record.{Record}
@@ -14,6 +14,7 @@ use Rattle.qhs.specs.declared.Reading.{Reading}
 use Rattle.qhs.specs.declared.Reading.the-variants as Reading
 use Rattle.qhs.specs.Qhs.{recordAt, readOf}
 use Rattle.qhs.specs.Laws.{schedule}
+use Rattle.qhs.specs.Parts.{part-length}
 use Rattle.text.specs.declared.Put.the-variants as Put
 use Rattle.text.specs.Text.{fileRefusedLine, Placed, placed, putOf}
 use Rattle.qhs_writer.specs.declared.Wrote.{Wrote}
@@ -82,10 +83,6 @@ module _ (bytes : List ℕ) (n : ℕ) (kinds processes cells values : List ℕ) 
       rw (listing-all _ n kinds k h (g .low) (g .kinds-are), listing-all _ n processes k h (g .low) (g .processes-are), listing-all _ n cells k h (g .low) (g .cells-are), listing-all _ n values k h (g .low) (g .values-are))
 
 -- ---- room for the fields
-
--- the first n elements of a slice that has more
-pub part-length : (n most v : ℕ) → n ≤ most → n ≡ length (take n (replicate most v))
-part-length n most v h = sym (length-take-le n (replicate most v) (omega (arith, length-replicate most v)))
 
 pub room-for : (n most : ℕ) → n ≤ most
     → Room n (take n (replicate most 0)) (take n (replicate most 0)) (take n (replicate most 0)) (take n (replicate most 0))

@@ -35,7 +35,7 @@ module _ (part : List ℕ) (at : ℕ) where
   pub word-past : length part ≤ at → Got.Outside ≡ wordIn part at
   word-past h = simp (le-ltb _ _ h)
 
--- a size that a word of 64 bits holds is the segment's own
+-- where the segment's part of the pool ends
 module _ (len from n s : ℕ) (h : from < len) (e : s ≡ segmentOf n) where
   size-at : sizeOf s ≡ sizeOf (segmentOf n)
   size-at = rw e

@@ -2,7 +2,8 @@
 -- Assumes nothing.
 use native.Mathlib.Omega.{arith}
 use mathlib.Core.Path.{refl}
-use Rattle.play.specs.Fills.{part-length, filled-is}
+use Rattle.qhs.specs.Parts.{part-length}
+use Rattle.play.specs.Fills.{filled-is}
 use Rattle.planners.proofs.SheetLaws.{left-filled}
 use borrow.Author.Needs.{needs}
 use Rattle.planners.proofs.sheet.schedule.Statement.{statement}

@@ -1,6 +1,7 @@
 -- `rewrite::again::schedule` meets its contract.
 -- Assumes nothing.
-use Rattle.rewrite.proofs.AgainLaws.{part-length, room-for}
+use Rattle.qhs.specs.Parts.{part-length}
+use Rattle.rewrite.proofs.AgainLaws.{room-for}
 use native.Mathlib.Omega.{arith}
 use borrow.Author.Needs.{needs}
 use Rattle.rewrite.proofs.again.schedule.Statement.{statement}
