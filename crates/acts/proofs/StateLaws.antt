@@ -10,8 +10,8 @@ use lib.ListN.{set}
 use lib.Seq.{set-getD}
 use borrow.Author.Tests.{lt-ltb, ltb-true}
 use Rattle.numbers.specs.Numbers.{mostProcesses, mostMarks}
-use Rattle.numbers.specs.BelowLaws.{and-right}
-use Rattle.refusals.specs.Orders.{pick}
+use Rattle.logic.specs.Truth.{and-right}
+use Rattle.logic.specs.Pick.{pick}
 use Rattle.refusals.specs.declared.Refusal.{Refusal}
 use Rattle.refusals.specs.declared.Refusal.the-variants as Refusal
 use Rattle.lanes.specs.declared.Check.{Check}

@@ -7,7 +7,8 @@ use lib.Dec.{leb, ltb, eqb}
 use lib.ListN.{length, set, replicate}
 use Rattle.numbers.specs.Numbers.{mostProcesses, mostCells, directoryWords, poolWords, processOf}
 use Rattle.numbers.specs.declared.Cell.{Cell}
-use Rattle.refusals.specs.Orders.{Rule, _gives_, orders, pick}
+use Rattle.refusals.specs.Orders.{Rule, _gives_, orders}
+use Rattle.logic.specs.Pick.{pick}
 use Rattle.refusals.specs.declared.Refusal.{Refusal}
 use Rattle.refusals.specs.declared.Refusal.the-variants as Refusal
 use Rattle.lanes.specs.declared.Check.{Check}

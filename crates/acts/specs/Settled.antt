@@ -10,8 +10,8 @@ use lib.ListN.{length, getD, set}
 use lib.Seq.{getD-set-same, getD-set-other, set-out, set-getD}
 use borrow.Author.Tests.{le-leb, ltb-true, ltb-false}
 use Rattle.numbers.specs.Numbers.{mostProcesses, mostCells, poolWords}
-use Rattle.numbers.specs.Below.{below}
-use Rattle.numbers.specs.BelowLaws.{below-all}
+use Rattle.logic.specs.Below.{below}
+use Rattle.logic.specs.BelowLaws.{below-all}
 use Rattle.lanes.specs.declared.Lane.{Lane}
 use Rattle.lanes.specs.declared.State.{State}
 use Rattle.lanes.specs.Ranges.{rest, laneOf, laneFits, sizesFit, stateFits}

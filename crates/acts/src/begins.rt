@@ -1,9 +1,9 @@
 // Beginning an operation: the refusals, and the lane that it starts from. What a refusal of any call leaves.
 ghost use mathlib.Core.Path.{_≡_};
-ghost use mathlib.Core.Bool.{true, _&&_};
+ghost use mathlib.Core.Bool.{true};
 ghost use Prim.Native.Nat.{_<_, _≤_};
 ghost use Rattle.numbers.specs.Numbers.{mostProcesses};
-ghost use Rattle.refusals.specs.Orders.{pick};
+ghost use Rattle.logic.specs.Pick.{pick};
 ghost use Rattle.acts.specs.Calls.{cellOf, opOf, begunOf};
 ghost use Rattle.acts.specs.Inner.{laneAt, changes};
 use super::Acted;
@@ -31,12 +31,6 @@ pub fn lanes_below(fits: bool, p: u32) -> usize
     ensures { λ r. ⌜ (r ≤ mostProcesses) × (r ≡ pick fits p 0) ⌝ }
 {
     if fits { p as usize } else { 0 }
-}
-
-pub fn both(a: bool, b: bool) -> bool
-    ensures { λ r. ⌜ r ≡ (a && b) ⌝ }
-{
-    if a { b } else { false }
 }
 
 fn cell_of(a: Ask) -> Cell

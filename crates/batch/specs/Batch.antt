@@ -8,7 +8,7 @@ use lib.Dec.{leb, eqb}
 use lib.ListN.{length, getD, set}
 use Rattle.numbers.specs.declared.Cell.{Cell}
 use Rattle.refusals.specs.Numbers.{numberOf, refusalOf}
-use Rattle.refusals.specs.Orders.{pick}
+use Rattle.logic.specs.Pick.{pick}
 use Rattle.lanes.specs.declared.Lane.{Lane}
 use Rattle.lanes.specs.declared.State.{State}
 use Rattle.steps.specs.declared.Sizes.{Sizes}

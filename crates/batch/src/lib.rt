@@ -24,7 +24,7 @@ fn state_fits(s: State) -> bool
     let end = begins::lanes_below(fits, s.p);
     let mut i: usize = 0;
     while i < end {
-        fits = begins::both(fits, lanes::lane_fits(s.p, s.m, s.lanes[i]));
+        fits = logic::both(fits, lanes::lane_fits(s.p, s.m, s.lanes[i]));
         i = i + 1;
     }
     fits

@@ -8,7 +8,7 @@ use lib.ListN.{length}
 use lib.Seq.{getD-set-same}
 use borrow.Author.Tests.{le-leb}
 use Rattle.numbers.specs.Numbers.{poolWords}
-use Rattle.numbers.specs.BelowLaws.{and-left, and-right}
+use Rattle.logic.specs.Truth.{and-left, and-right, both-ways}
 use Rattle.lanes.specs.declared.Lane.{Lane}
 use Rattle.lanes.specs.declared.State.{State}
 use Rattle.lanes.specs.Ranges.{rest, laneOf, laneFits, stateFits}
@@ -16,12 +16,6 @@ use Rattle.lanes.specs.Laws.{sized, sizes-of, lane-of}
 use Rattle.acts.specs.Calls.{settled}
 use Rattle.acts.specs.Settled.{settled-fits}
 use Rattle.claims.specs.Claims.{NewNumbers}
-
--- two tests that follow from each other are one
-both-ways : (a b : Bool) → (a ≡ true → b ≡ true) → (b ≡ true → a ≡ true) → a ≡ b
-both-ways true b f g = sym (f refl)
-both-ways false true f g = let y : false ≡ true = g refl in cc
-both-ways false false f g = refl
 
 module _ (s : State) (q : ℕ) (fine : stateFits s ≡ true) (low : q < s .p) (here : q < length (s .lanes)) (l : Lane) (t : ℕ) where
   abbrev s′ : State

@@ -8,7 +8,7 @@ use borrow.Author.Tests.{lt-ltb}
 use lib.Dec.{ltb, eqb}
 use lib.ListN.{length, getD}
 use Rattle.numbers.specs.Numbers.{mostSegments, segmentOf, offsetOf, processOf, placeOf}
-use Rattle.refusals.specs.Orders.{pick}
+use Rattle.logic.specs.Pick.{pick}
 use Rattle.lanes.specs.Ranges.{laneOf}
 use Rattle.steps.specs.Steps.{startOf, poolWord, checkMark, check, opTurn}
 use Rattle.steps.specs.Changes.{topAfter, memoryAfter}

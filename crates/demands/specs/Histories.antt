@@ -9,8 +9,8 @@ use native.Mathlib.Decide.{ℕ-discrete}
 use native.Mathlib.Omega.{arith}
 use borrow.Author.Tests.{ltb-true, eqb-true, eq-eqb}
 use lib.Dec.{ltb, eqb}
-use Rattle.numbers.specs.BelowLaws.{and-left, and-right}
-use Rattle.refusals.specs.Orders.{pick}
+use Rattle.logic.specs.Truth.{and-left, and-right}
+use Rattle.logic.specs.Pick.{pick}
 use Rattle.acts.specs.Calls.{cellOf}
 use Rattle.theory.specs.Interface as Theory
 use Rattle.theory.specs.Interface.{Op, write, Ans, got, told, done, Done}

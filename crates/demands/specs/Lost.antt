@@ -7,7 +7,7 @@ use mathlib.Core.List.{List, [], _∷_}
 use native.Mathlib.Decide.{ℕ-discrete}
 use lib.ListN.{replicate}
 use Rattle.numbers.specs.Numbers.{directoryWords, poolWords, fillOf, logIn, log2, segmentOf, offsetOf, sizeOf}
-use Rattle.numbers.specs.Below.{below}
+use Rattle.logic.specs.Below.{below}
 use Rattle.steps.specs.Memory.{memory}
 use Rattle.acts.specs.Calls.{openingOf, begunOf}
 use Rattle.theory.specs.Interface.{upd}

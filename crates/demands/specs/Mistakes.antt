@@ -5,7 +5,8 @@ use mathlib.Core.Path.{_≡_, refl}
 use lib.Dec.{eqb}
 use lib.ListN.{getD}
 use Rattle.numbers.specs.Numbers.{packOf}
-use Rattle.refusals.specs.Orders.{pick, orders}
+use Rattle.refusals.specs.Orders.{orders}
+use Rattle.logic.specs.Pick.{pick}
 use Rattle.lanes.specs.Ranges.{laneOf, stateFits}
 use Rattle.steps.specs.Steps.{goes, check, stageNext, checkedTurn, markTurn, writeTurn, opTurn, turnOf}
 use Rattle.acts.specs.Calls as Grid

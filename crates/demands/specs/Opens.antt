@@ -10,8 +10,8 @@ use borrow.Author.Tests.{leb-true, eqb-true}
 use lib.Dec.{leb, eqb}
 use lib.ListN.{length, getD, replicate, length-replicate, getD-replicate, List·getD-eq-default}
 use Rattle.numbers.specs.Numbers.{mostProcesses, mostCells, poolWords, directoryWords}
-use Rattle.numbers.specs.BelowLaws.{and-left, and-right}
-use Rattle.refusals.specs.Orders.{pick}
+use Rattle.logic.specs.Truth.{and-left, and-right}
+use Rattle.logic.specs.Pick.{pick}
 use Rattle.lanes.specs.Ranges.{rest}
 use Rattle.acts.specs.Calls as Grid
 use Rattle.theory.specs.Interface as Theory

@@ -8,7 +8,7 @@ use mathlib.Core.List.{List·Memᴰ}
 use native.Mathlib.Omega.{arith}
 use lib.Dec.{ltb}
 use Rattle.numbers.specs.Numbers.{fillOf}
-use Rattle.refusals.specs.Orders.{pick}
+use Rattle.logic.specs.Pick.{pick}
 use Rattle.lanes.specs.Ranges.{laneOf}
 use Rattle.acts.specs.Calls as Grid
 use Rattle.theory.specs.Interface as Theory

@@ -6,7 +6,8 @@ use mathlib.Core.Bool.{Bool, true, false, not}
 use mathlib.Core.List.{List, [], _∷_}
 use native.Mathlib.Omega.{arith}
 use lib.Seq.{set-getD}
-use Rattle.refusals.specs.Orders.{Rule, _gives_, pick, orders}
+use Rattle.refusals.specs.Orders.{Rule, _gives_, orders}
+use Rattle.logic.specs.Pick.{pick}
 use Rattle.lanes.specs.Ranges.{rest, laneOf, stateFits}
 use Rattle.steps.specs.Steps.{turnOf}
 use Rattle.acts.specs.Calls as Grid

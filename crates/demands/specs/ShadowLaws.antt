@@ -13,7 +13,7 @@ use lib.ListN.{length, getD, set}
 use lib.Seq.{getD-set-same, getD-set-other}
 use Rattle.numbers.specs.Numbers.{mostSegments, linkProcesses, linkPlaces, directoryWord, packOf}
 use Rattle.numbers.specs.Laws.{process-pack, place-pack}
-use Rattle.refusals.specs.Orders.{pick}
+use Rattle.logic.specs.Pick.{pick}
 use Rattle.lanes.specs.Ranges.{rest}
 use Rattle.theory.specs.Interface as Theory
 use Rattle.demands.specs.Types.{Lane}

@@ -7,7 +7,7 @@ use native.Mathlib.Decide.{ℕ-discrete}
 use native.Mathlib.Omega.{arith}
 use lib.ListN.{getD}
 use Rattle.numbers.specs.Numbers.{fillOf, logIn, log2, segmentOf, offsetOf, sizeOf}
-use Rattle.numbers.specs.Below.{below}
+use Rattle.logic.specs.Below.{below}
 use Rattle.lanes.specs.Ranges.{laneOf}
 use Rattle.acts.specs.Calls.{Outcome, outcome, openingOf, begunOf, verdictOf, beginOf, stepOf, settled, withOp}
 use Rattle.theory.specs.Interface.{upd}

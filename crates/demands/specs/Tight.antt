@@ -6,7 +6,7 @@ use mathlib.Core.Bool.{true}
 use mathlib.Core.List.{List, [], _∷_}
 use native.Mathlib.Decide.{ℕ-discrete}
 use Rattle.numbers.specs.Numbers.{logIn, log2, segmentOf, offsetOf, sizeOf}
-use Rattle.numbers.specs.Below.{below}
+use Rattle.logic.specs.Below.{below}
 use Rattle.acts.specs.Calls.{openingOf, begunOf, verdictOf, stepOf}
 use Rattle.theory.specs.Interface.{upd, sum}
 use Rattle.demands.specs.Types.{Ask, Answer}

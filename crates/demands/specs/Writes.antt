@@ -9,7 +9,7 @@ use native.Mathlib.Omega.{arith}
 use lib.Dec.{eqb}
 use lib.ListN.{length, getD}
 use Rattle.numbers.specs.Numbers.{mostSegments, linkProcesses, linkPlaces, segmentOf, offsetOf, sizeOf, directoryWord, packOf, tombstone}
-use Rattle.refusals.specs.Orders.{pick}
+use Rattle.logic.specs.Pick.{pick}
 use Rattle.lanes.specs.Ranges.{laneOf}
 use Rattle.steps.specs.Steps.{goes, startOf, stageNext, entered, stored, markTurn, writeTurn}
 use Rattle.steps.specs.Changes.{memoryAfter}

@@ -43,7 +43,7 @@ pub fn begin(s: State, q: Process, a: Ask) -> Stepped
     let end = begins::lanes_below(fits, t.p);
     let mut i: usize = 0;
     while i < end {
-        fits = begins::both(fits, lanes::lane_fits(t.p, t.m, t.lanes[i]));
+        fits = logic::both(fits, lanes::lane_fits(t.p, t.m, t.lanes[i]));
         i = i + 1;
     }
     let b = begins::begun(fits, t.p, t.m, t.top, q, l, a);
@@ -86,7 +86,7 @@ pub fn step(
     let end = begins::lanes_below(fits, t.p);
     let mut i: usize = 0;
     while i < end {
-        fits = begins::both(fits, lanes::lane_fits(t.p, t.m, t.lanes[i]));
+        fits = logic::both(fits, lanes::lane_fits(t.p, t.m, t.lanes[i]));
         i = i + 1;
     }
     let b = judged::act(fits, z, q, l, other.marks, readings, links, directory, pool);

@@ -11,8 +11,8 @@ use borrow.Author.Tests.{le-leb, lt-leb, ltb-true, ltb-false}
 use Rattle.numbers.specs.Numbers.{mostSegments, mostSteps, mostMarks, poolWords, processOf, placeOf, segmentOf, packOf, tombstone}
 use Rattle.numbers.specs.declared.Cell.{Cell}
 use Rattle.numbers.specs.declared.Place.{Place}
-use Rattle.numbers.specs.BelowLaws.{and-left, and-right}
-use Rattle.refusals.specs.Orders.{pick}
+use Rattle.logic.specs.Truth.{and-left, and-right, and-assoc}
+use Rattle.logic.specs.Pick.{pick}
 use Rattle.lanes.specs.declared.Check.{Check}
 use Rattle.lanes.specs.declared.Check.the-variants as Check
 use Rattle.lanes.specs.declared.Stage.{Stage}
@@ -177,10 +177,6 @@ module _ (z : Sizes) (q : ℕ) (l : Lane) (seen k : ℕ) (mem : Memory) (ch : Ch
 
 -- ---- the whole lane
 
-and-assoc : (a b c : Bool) → (a && (b && c)) ≡ ((a && b) && c)
-and-assoc true b c = refl
-and-assoc false b c = refl
-
 one-more : (n : ℕ) → leb (n + 1) mostSteps ≡ ltb n mostSteps
 one-more n = by (ltb n mostSteps) refl
   where
@@ -215,7 +211,7 @@ module _ (z : Sizes) (l : Lane) (sizes : sizesFit (z .p) (z .m) (z .top) ≡ tru
       by (Change.Directory k w) = simp (top-low, marks-low, drawn-low)
       by (Change.Mark start n x) = simp (top-low, marks-low, drawn-low)
       by (Change.Marks n) = simp (top-low, drawn-low)
-      by (Change.Top top n) = simp (marks-low) (sym (and-assoc (leb top (poolWords (z .p) (z .m))) (leb n mostSegments) b))
+      by (Change.Top top n) = simp (marks-low) (and-assoc (leb top (poolWords (z .p) (z .m))) (leb n mostSegments) b)
 
   -- for a turn of this lane the few tests come to all of them
   pub told : (q seen : ℕ) (mem : Memory) (t : Turn) → seen ≤ mostMarks (z .m) → t ≡ Steps.turnOf z q l seen mem → Told z l t

@@ -5,6 +5,7 @@ use mathlib.Core.Bool.{Bool, true, false, _&&_}
 use Prim.Native.Nat.{ℕ, _<_, _≤_}
 use borrow.Author.Tests.{lt-ltb, le-ltb, le-leb, lt-leb, eqb-true}
 use lib.Dec.{leb, ltb, eqb}
+use Rattle.logic.specs.Truth.{and-false}
 use Rattle.numbers.specs.Numbers.{mostProcesses, mostCells, mostSegments, mostSteps, mostMarks, poolWords, processOf, placeOf}
 use Rattle.numbers.specs.declared.Place.{Place}
 use Rattle.numbers.specs.declared.Cell.{Cell}
@@ -71,10 +72,6 @@ module _ (p m top : ℕ) where
     sizes-top r h k e = simp (le-leb _ _ p-low, le-leb _ _ p-high, le-leb _ _ h, le-leb _ _ k) (rw e)
 
 -- With no operation under way no step was taken: that is all of the range of its steps.
-and-false : (b : Bool) → false ≡ (b && false)
-and-false true = refl
-and-false false = refl
-
 no-steps : (steps : ℕ) → eqb steps 0 ≡ (leb steps mostSteps && eqb steps 0)
 no-steps steps = by (eqb steps 0) refl
   where

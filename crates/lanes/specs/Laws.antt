@@ -7,8 +7,9 @@ use lib.Dec.{leb, ltb}
 use borrow.Author.Tests.{leb-true}
 use Rattle.numbers.specs.Numbers.{mostProcesses, mostCells, mostSegments, mostSteps, mostMarks, poolWords}
 use Rattle.numbers.specs.declared.Cell.{Cell}
-use Rattle.numbers.specs.Below.{below}
-use Rattle.numbers.specs.BelowLaws.{and-left, and-right, below-at}
+use Rattle.logic.specs.Below.{below}
+use Rattle.logic.specs.Truth.{and-left, and-right}
+use Rattle.logic.specs.BelowLaws.{below-at}
 use Rattle.lanes.specs.declared.Stage.{Stage}
 use Rattle.lanes.specs.declared.Op.{Op}
 use Rattle.lanes.specs.declared.Op.the-variants as Op

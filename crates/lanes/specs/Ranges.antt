@@ -6,7 +6,7 @@ use lib.Dec.{ltb, leb, eqb}
 use lib.ListN.{getD}
 use Rattle.numbers.specs.Numbers.{mostProcesses, mostCells, mostSegments, mostSteps, mostMarks, poolWords, processOf, placeOf}
 use Rattle.numbers.specs.declared.Place.{Place}
-use Rattle.numbers.specs.Below.{below}
+use Rattle.logic.specs.Below.{below}
 use Rattle.lanes.specs.declared.Check.{Check}
 use Rattle.lanes.specs.declared.Check.the-variants as Check
 use Rattle.lanes.specs.declared.Stage.{Stage}

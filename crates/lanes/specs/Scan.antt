@@ -4,8 +4,9 @@ use mathlib.Core.Path.{_≡_, refl, sym, ap, _∙_}
 use mathlib.Core.Bool.{Bool, true, false, _&&_}
 use Prim.Native.Nat.{ℕ, _+_, _≤_}
 use Rattle.numbers.specs.Numbers.{mostProcesses}
-use Rattle.numbers.specs.Below.{below}
-use Rattle.numbers.specs.BelowLaws.{below-more}
+use Rattle.logic.specs.Truth.{and-true, and-assoc}
+use Rattle.logic.specs.Below.{below}
+use Rattle.logic.specs.BelowLaws.{below-more}
 use Rattle.lanes.specs.declared.State.{State}
 use Rattle.lanes.specs.Ranges.{laneOf, laneFits, sizesFit, stateFits}
 use Rattle.lanes.specs.Laws.{sized}
@@ -13,14 +14,6 @@ use Rattle.lanes.specs.Laws.{sized}
 -- the sizes, and the lanes below i
 abbrev pub Passed : State → ℕ → Bool → Type 0
 Passed s i fits = fits ≡ (sizesFit (s .p) (s .m) (s .top) && below i (λ (q : ℕ). laneFits (s .p) (s .m) (laneOf s q)))
-
-and-true : (b : Bool) → (b && true) ≡ b
-and-true true = refl
-and-true false = refl
-
-and-assoc : (a b c : Bool) → ((a && b) && c) ≡ (a && (b && c))
-and-assoc true b c = refl
-and-assoc false b c = refl
 
 pub passed-none : (s : State) (fits : Bool) → fits ≡ sizesFit (s .p) (s .m) (s .top) → Passed s 0 fits
 unfolding below

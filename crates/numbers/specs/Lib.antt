@@ -1,5 +1,3 @@
 pub mod Numbers
-pub mod Below
-pub mod BelowLaws
 pub mod Logs
 pub mod Laws

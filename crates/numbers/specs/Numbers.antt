@@ -1,8 +1,8 @@
 -- The numbers of the grid, as document 01 ("Numbers") has them.
 -- Assumes nothing.
 use Prim.Native.Nat.{ℕ, zero, suc, _+_, _-_, _*_, _/_, _%_, _^_}
-use mathlib.Core.Bool.{Bool, true, false}
 use lib.Dec.{ltb}
+use Rattle.logic.specs.Pick.{pick}
 
 -- Processes p: 1 to 16.
 abbrev pub mostProcesses : ℕ
@@ -64,13 +64,9 @@ abbrev pub mostSteps : ℕ
 mostSteps = 10
 
 -- floor(log2 n): how often n can be halved before it is below 2; n halvings are enough.
-abbrev pub pickℕ : Bool → ℕ → ℕ → ℕ
-pickℕ true a b = a
-pickℕ false a b = b
-
 unfoldable pub logIn : ℕ → ℕ → ℕ
 logIn zero n = 0
-logIn (suc halvings) n = pickℕ (ltb n 2) 0 (suc (logIn halvings (n / 2)))
+logIn (suc halvings) n = pick (ltb n 2) 0 (suc (logIn halvings (n / 2)))
 
 unfoldable pub log2 : ℕ → ℕ
 log2 n = logIn n n

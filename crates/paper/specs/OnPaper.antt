@@ -3,7 +3,7 @@
 use Prim.Native.Nat.{ℕ, zero, suc}
 use mathlib.Core.Path.{_≡_}
 use mathlib.Core.List.{List, [], _∷_, _++_}
-use Rattle.refusals.specs.Orders.{pick}
+use Rattle.logic.specs.Pick.{pick}
 use Rattle.planners_text.specs.Sheet.{Row, row, writtenBelow}
 use Rattle.theory.specs.Interface.{Entry, valueIn, writtenIn}
 use Rattle.demands.specs.Book.{Run}

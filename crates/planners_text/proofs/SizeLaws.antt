@@ -8,8 +8,8 @@ use native.Mathlib.Omega.{arith}
 use native.Mathlib.Numerals.{add-one}
 use lib.ListN.{length, length-append}
 use borrow.Author.Tests.{not-true, not-false}
-use Rattle.numbers.specs.Below.{below}
-use Rattle.numbers.specs.BelowLaws.{below-fails, below-more}
+use Rattle.logic.specs.Below.{below}
+use Rattle.logic.specs.BelowLaws.{below-fails, below-more}
 use Rattle.lanes.specs.declared.State.{State}
 use Rattle.quiet.specs.declared.Quarter.{Quarter}
 use Rattle.quiet.specs.declared.Quarter.the-variants as Quarter

@@ -4,7 +4,7 @@ use Prim.Native.Nat.{ℕ, _+_, _≤_}
 use mathlib.Core.Path.{_≡_}
 use mathlib.Core.List.{List}
 use lib.ListN.{length}
-use Rattle.refusals.specs.Orders.{pick}
+use Rattle.logic.specs.Pick.{pick}
 use Rattle.lanes.specs.declared.State.{State}
 use Rattle.steps.specs.Memory.{Memory}
 use Rattle.text.specs.Text.{splice}

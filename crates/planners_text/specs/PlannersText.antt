@@ -5,8 +5,9 @@ use mathlib.Core.Bool.{Bool, true, false, not}
 use mathlib.Core.List.{List, [], _∷_, _++_}
 use lib.Dec.{ltb}
 use lib.ListN.{length}
-use Rattle.numbers.specs.Below.{below}
-use Rattle.refusals.specs.Orders.{Rule, _gives_, orders, pick}
+use Rattle.logic.specs.Below.{below}
+use Rattle.refusals.specs.Orders.{Rule, _gives_, orders}
+use Rattle.logic.specs.Pick.{pick}
 use Rattle.refusals.specs.declared.Refusal.the-variants as Refusal
 use Rattle.lanes.specs.declared.State.{State}
 use Rattle.steps.specs.Memory.{Memory}

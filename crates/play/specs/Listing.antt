@@ -4,7 +4,7 @@ use Prim.Native.Nat.{ℕ}
 use mathlib.Core.Path.{_≡_, refl}
 use mathlib.Core.List.{List, [], _∷_, _++_}
 use Rattle.numbers.specs.Numbers.{segmentOf, offsetOf, sizeOf, log2, logIn}
-use Rattle.numbers.specs.Below.{below}
+use Rattle.logic.specs.Below.{below}
 use Rattle.qhs.specs.Qhs.{numberAt, recordAt, readOf}
 use Rattle.acts.specs.Calls.{openingOf, begunOf, verdictOf}
 use Rattle.text.specs.Text.{word, decimalIn, decimal, answerLine, sizesLine}

@@ -6,7 +6,7 @@ use lib.Dec.{leb, eqb}
 use lib.ListN.{length, replicate}
 use Rattle.numbers.specs.Numbers.{directoryWords, poolWords}
 use Rattle.numbers.specs.declared.Cell.{Cell}
-use Rattle.refusals.specs.Orders.{pick}
+use Rattle.logic.specs.Pick.{pick}
 use Rattle.qhs.specs.declared.Header.{Header}
 use Rattle.qhs.specs.declared.Record.{Record}
 use Rattle.qhs.specs.declared.Reading.{Reading}

@@ -9,15 +9,14 @@ use lib.Dec.{eqb}
 use lib.ListN.{length}
 use borrow.Author.Tests.{lt-ltb, le-ltb, le-leb, lt-leb, eq-eqb, ne-eqb, not-true, not-false}
 use Rattle.numbers.specs.Numbers.{mostProcesses, mostCells}
-use Rattle.numbers.specs.Below.{below}
-use Rattle.numbers.specs.BelowLaws.{below-fails, below-next}
+use Rattle.logic.specs.Below.{below}
+use Rattle.logic.specs.BelowLaws.{below-fails, below-next}
 use Rattle.refusals.specs.declared.Refusal.{Refusal}
 use Rattle.refusals.specs.declared.Refusal.the-variants as Refusal
 use Rattle.qhs.specs.declared.Header.{Header}
 use Rattle.qhs.specs.declared.Reading.{Reading}
 use Rattle.qhs.specs.declared.Reading.the-variants as Reading
-use Rattle.qhs.specs.Qhs.{headerBytes, recordBytes, mostBytes, version, mostFileCells, mostKind}
-use Rattle.qhs.specs.Qhs.{marked, versionOf, headerOf, bodyBytes, recordsIn, recordAt, kindFits, readOf}
+use Rattle.qhs.specs.Qhs.{headerBytes, recordBytes, mostBytes, version, mostFileCells, mostKind, marked, versionOf, headerOf, bodyBytes, recordsIn, recordAt, kindFits, readOf}
 use Rattle.qhs.specs.Inner.{openedAs}
 
 -- ---- the kinds of the first records

@@ -2,7 +2,8 @@
 -- Assumes nothing.
 use Prim.Native.Nat.{ℕ}
 use lib.Dec.{leb}
-use Rattle.refusals.specs.Orders.{orders, pick}
+use Rattle.refusals.specs.Orders.{orders}
+use Rattle.logic.specs.Pick.{pick}
 use Rattle.qhs.specs.declared.Header.{Header}
 use Rattle.qhs.specs.declared.Reading.{Reading}
 use Rattle.qhs.specs.declared.Reading.the-variants as Reading

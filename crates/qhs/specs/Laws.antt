@@ -12,14 +12,14 @@ use lib.Seq.{getD-drop}
 use lib.Dec.{leb}
 use borrow.Author.Tests.{ltb-false, leb-true, eqb-true, not-false}
 use Rattle.numbers.specs.Numbers.{mostProcesses, mostCells}
-use Rattle.numbers.specs.BelowLaws.{and-left, and-right, below-at}
+use Rattle.logic.specs.Truth.{and-left, and-right}
+use Rattle.logic.specs.BelowLaws.{below-at}
 use Rattle.refusals.specs.Laws.{past}
 use Rattle.refusals.specs.declared.Refusal.{Refusal}
 use Rattle.qhs.specs.declared.Header.{Header}
 use Rattle.qhs.specs.declared.Reading.{Reading}
 use Rattle.qhs.specs.declared.Reading.the-variants as Reading
-use Rattle.qhs.specs.Qhs.{headerBytes, recordBytes, mostBytes, mostFileCells, mostKind, version, byteAt, numberAt, marked, versionOf, headerOf, recordAt}
-use Rattle.qhs.specs.Qhs.{bodyBytes, recordsIn, kindFits, kindsFit, fileRefusals, readOf}
+use Rattle.qhs.specs.Qhs.{headerBytes, recordBytes, mostBytes, mostFileCells, mostKind, version, byteAt, numberAt, marked, versionOf, headerOf, recordAt, bodyBytes, recordsIn, kindFits, kindsFit, fileRefusals, readOf}
 
 -- Every byte is below 256.
 abbrev pub Bytes : List ℕ → Type 0

@@ -2,7 +2,7 @@
 ghost use mathlib.Core.Path.{_≡_};
 ghost use Prim.Native.Nat.{_≤_};
 ghost use lib.ListN.{length};
-ghost use Rattle.numbers.specs.Below.{below};
+ghost use Rattle.logic.specs.Below.{below};
 ghost use Rattle.qhs.specs.Qhs.{headerBytes, marked, headerOf, recordAt, kindFits, readOf};
 ghost use Rattle.qhs.specs.Inner.{openedAs};
 

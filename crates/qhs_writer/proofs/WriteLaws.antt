@@ -9,8 +9,8 @@ use lib.Dec.{leb, ltb}
 use lib.ListN.{length, getD}
 use borrow.Author.Tests.{lt-ltb, le-ltb, le-leb, lt-leb, not-true, not-false}
 use Rattle.numbers.specs.Numbers.{mostProcesses, mostCells}
-use Rattle.numbers.specs.Below.{below}
-use Rattle.numbers.specs.BelowLaws.{below-fails, below-next}
+use Rattle.logic.specs.Below.{below}
+use Rattle.logic.specs.BelowLaws.{below-fails, below-next}
 use Rattle.refusals.specs.declared.Refusal.{Refusal}
 use Rattle.refusals.specs.declared.Refusal.the-variants as Refusal
 use Rattle.qhs.specs.declared.Header.{Header}

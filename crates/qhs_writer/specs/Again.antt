@@ -3,7 +3,7 @@
 use Prim.Native.Nat.{ℕ, zero, suc, _+_}
 use mathlib.Core.List.{List, [], _∷_, _++_}
 use lib.Dec.{ltb, eqb}
-use Rattle.refusals.specs.Orders.{pick}
+use Rattle.logic.specs.Pick.{pick}
 use Rattle.qhs.specs.declared.Record.{Record}
 use Rattle.qhs.specs.Qhs.{headerBytes, recordBytes, byteAt, recordStart, recordAt, recordsIn}
 use Rattle.qhs_writer.specs.declared.Entry.{Entry}

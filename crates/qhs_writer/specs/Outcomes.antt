@@ -10,7 +10,8 @@ use lib.Seq.{take-append-seam, drop-append-seam}
 use borrow.Author.Tests.{ltb-false, lt-ltb, le-ltb, le-leb, not-false}
 use Rattle.numbers.specs.Numbers.{mostProcesses, mostCells}
 use Rattle.refusals.specs.Laws.{past}
-use Rattle.refusals.specs.Orders.{Rule, orders, pick}
+use Rattle.refusals.specs.Orders.{Rule, orders}
+use Rattle.logic.specs.Pick.{pick}
 use Rattle.refusals.specs.declared.Refusal.{Refusal}
 use Rattle.qhs.specs.declared.Header.{Header}
 use Rattle.qhs.specs.Qhs.{mostBytes, mostFileCells}

@@ -11,8 +11,9 @@ use lib.Dec.{eqb}
 use lib.ListN.{length, getD, length-append, List·getD-append}
 use lib.Seq.{getD-at}
 use borrow.Author.Tests.{eqb-true, le-leb, lt-ltb, le-ltb}
-use Rattle.numbers.specs.BelowLaws.{and-left, and-right, below-all}
-use Rattle.refusals.specs.Orders.{pick}
+use Rattle.logic.specs.Truth.{and-left, and-right}
+use Rattle.logic.specs.BelowLaws.{below-all}
+use Rattle.logic.specs.Pick.{pick}
 use Rattle.qhs.specs.declared.Header.{Header}
 use Rattle.qhs.specs.declared.Reading.the-variants as Reading
 use Rattle.qhs.specs.Qhs.{headerBytes, recordBytes, version, mostKind, byteAt, numberAt, marked, versionOf, headerOf, recordStart, recordAt, recordsIn}

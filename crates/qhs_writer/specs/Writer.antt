@@ -5,8 +5,9 @@ use mathlib.Core.Bool.{Bool, not}
 use mathlib.Core.List.{List, [], _∷_, _++_}
 use lib.Dec.{leb, ltb, eqb}
 use lib.ListN.{length, getD}
-use Rattle.numbers.specs.Below.{below}
-use Rattle.refusals.specs.Orders.{Rule, _gives_, orders, pick}
+use Rattle.logic.specs.Below.{below}
+use Rattle.refusals.specs.Orders.{Rule, _gives_, orders}
+use Rattle.logic.specs.Pick.{pick}
 use Rattle.refusals.specs.declared.Refusal.the-variants as Refusal
 use Rattle.qhs.specs.declared.Header.{Header}
 use Rattle.qhs.specs.Qhs.{mostBytes, version, mostFileCells, mostKind, openRefusals}

@@ -11,13 +11,12 @@ use lib.Dec.{eqb}
 use lib.ListN.{length, length-append}
 use borrow.Author.Tests.{le-ltb, le-leb, leb-true, eq-eqb}
 use Rattle.numbers.specs.Numbers.{mostProcesses, mostCells}
-use Rattle.numbers.specs.BelowLaws.{below-all, below-at}
-use Rattle.refusals.specs.Orders.{pick}
+use Rattle.logic.specs.BelowLaws.{below-all, below-at}
+use Rattle.logic.specs.Pick.{pick}
 use Rattle.qhs.specs.declared.Header.{Header}
 use Rattle.qhs.specs.declared.Reading.{Reading}
 use Rattle.qhs.specs.declared.Reading.the-variants as Reading
-use Rattle.qhs.specs.Qhs.{headerBytes, recordBytes, mostBytes, version, mostFileCells, mostKind, numberAt, marked, versionOf, headerOf}
-use Rattle.qhs.specs.Qhs.{fieldsAt, recordStart, recordAt, bodyBytes, recordsIn, kindFits, kindsFit, readOf}
+use Rattle.qhs.specs.Qhs.{headerBytes, recordBytes, mostBytes, version, mostFileCells, mostKind, numberAt, marked, versionOf, headerOf, fieldsAt, recordStart, recordAt, bodyBytes, recordsIn, kindFits, kindsFit, readOf}
 use Rattle.qhs.specs.Laws.{Words}
 use Rattle.qhs_writer.specs.declared.Entry.{Entry}
 use Rattle.qhs_writer.specs.Writer.{Fields, count, entryAt, bytesOf, frontBytes, backBytes, headBytes, stepKind, writeKind, needed, entryBytes, entriesBelow, fileOf, known}

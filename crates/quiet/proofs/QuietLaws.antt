@@ -9,9 +9,10 @@ use borrow.Author.Tests.{lt-ltb, le-ltb}
 use Rattle.numbers.specs.Numbers.{mostProcesses, processOf}
 use Rattle.numbers.specs.declared.Cell.{Cell}
 use Rattle.numbers.specs.declared.Process.{Process}
-use Rattle.numbers.specs.Below.{below}
-use Rattle.numbers.specs.BelowLaws.{and-left, below-more}
-use Rattle.refusals.specs.Orders.{pick}
+use Rattle.logic.specs.Below.{below}
+use Rattle.logic.specs.Truth.{and-left}
+use Rattle.logic.specs.BelowLaws.{below-more}
+use Rattle.logic.specs.Pick.{pick}
 use Rattle.lanes.specs.declared.Check.{Check}
 use Rattle.lanes.specs.declared.Check.the-variants as Check
 use Rattle.lanes.specs.declared.State.{State}

@@ -6,8 +6,8 @@ use mathlib.Core.List.{List}
 use lib.Dec.{ltb}
 use Rattle.numbers.specs.Numbers.{mostProcesses}
 use Rattle.numbers.specs.declared.Cell.{Cell}
-use Rattle.numbers.specs.Below.{below}
-use Rattle.refusals.specs.Orders.{pick}
+use Rattle.logic.specs.Below.{below}
+use Rattle.logic.specs.Pick.{pick}
 use Rattle.lanes.specs.declared.Check.{Check}
 use Rattle.lanes.specs.declared.Check.the-variants as Check
 use Rattle.lanes.specs.declared.State.{State}

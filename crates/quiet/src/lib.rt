@@ -37,8 +37,8 @@ pub fn scan_of(s: State) -> Scan
     while i < end {
         let l = s.lanes[i];
         let o = l.op;
-        fits = begins::both(fits, lanes::lane_fits(s.p, s.m, l));
-        calm = begins::both(calm, lanes::idle(o));
+        fits = logic::both(fits, lanes::lane_fits(s.p, s.m, l));
+        calm = logic::both(calm, lanes::idle(o));
         i = i + 1;
     }
     if !fits {

@@ -6,7 +6,8 @@ use mathlib.Core.List.{List, [], _∷_}
 use Rattle.refusals.specs.declared.Refusal.{Refusal}
 use Rattle.refusals.specs.declared.Refusal.the-variants as Refusal
 use Rattle.refusals.specs.Numbers.{numberOf, refusalOf}
-use Rattle.refusals.specs.Orders.{Rule, pick, orders}
+use Rattle.refusals.specs.Orders.{Rule, orders}
+use Rattle.logic.specs.Pick.{pick}
 
 -- No refusal of an order holds.
 abbrev pub None : List Rule → Type 0

@@ -6,7 +6,7 @@ use mathlib.Core.Path.{_≡_}
 use mathlib.Core.Bool.{Bool, true, false}
 use mathlib.Core.Logic.{_⊎_, _≢_}
 use mathlib.Core.List.{List, [], _∷_, List·Memᴰ}
-use Rattle.refusals.specs.Orders.{pick}
+use Rattle.logic.specs.Pick.{pick}
 use Rattle.refusals.specs.declared.Refusal.{Refusal}
 use Rattle.refusals.specs.declared.Refusal.the-variants as Refusal
 use Rattle.steps.specs.declared.Found.{Found}

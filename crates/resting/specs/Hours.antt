@@ -10,8 +10,8 @@ use borrow.Author.Tests.{lt-ltb, le-ltb, ne-eqb}
 use lib.Dec.{eqb}
 use lib.ListN.{length}
 use Rattle.numbers.specs.Numbers.{fillOf}
-use Rattle.numbers.specs.BelowLaws.{below-all}
-use Rattle.refusals.specs.Orders.{pick}
+use Rattle.logic.specs.BelowLaws.{below-all}
+use Rattle.logic.specs.Pick.{pick}
 use Rattle.refusals.specs.declared.Refusal.the-variants as Refusal
 use Rattle.lanes.specs.declared.State.{State}
 use Rattle.lanes.specs.Ranges.{laneOf, idle}

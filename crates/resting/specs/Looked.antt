@@ -8,7 +8,7 @@ use borrow.Author.Tests.{lt-ltb, le-ltb}
 use lib.Dec.{eqb}
 use lib.ListN.{length, getD}
 use Rattle.numbers.specs.Numbers.{mostProcesses, offsetOf, processOf, placeOf}
-use Rattle.refusals.specs.Orders.{pick}
+use Rattle.logic.specs.Pick.{pick}
 use Rattle.lanes.specs.declared.State.{State}
 use Rattle.lanes.specs.Ranges.{laneOf}
 use Rattle.steps.specs.declared.Found.the-variants as Found

@@ -5,7 +5,7 @@ use mathlib.Core.Bool.{Bool, true, _&&_}
 use Prim.Native.Nat.{ℕ}
 use lib.Dec.{T, eqb}
 use Rattle.numbers.specs.Numbers.{logIn, log2, segmentOf, offsetOf, sizeOf, processOf, placeOf, fillOf}
-use Rattle.numbers.specs.Below.{below}
+use Rattle.logic.specs.Below.{below}
 use Rattle.acts.specs.Calls.{openingOf, begunOf, verdictOf}
 use Rattle.starred.specs.Play.{Move, write, steps, Seen, wrote, leaves, inForce, handedOut, opening, brought, walk, after, play, sees}
 

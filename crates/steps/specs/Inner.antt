@@ -5,7 +5,7 @@ use mathlib.Core.List.{List}
 use lib.Dec.{ltb}
 use lib.ListN.{getD, length}
 use Rattle.numbers.specs.Numbers.{segmentOf, offsetOf, sizeOf}
-use Rattle.refusals.specs.Orders.{pick}
+use Rattle.logic.specs.Pick.{pick}
 use Rattle.steps.specs.declared.Got.{Got}
 use Rattle.steps.specs.declared.Got.the-variants.{Outside, Word}
 

@@ -8,7 +8,7 @@ use lib.ListN.{getD, length}
 use Rattle.numbers.specs.Numbers.{tombstone, segmentOf, offsetOf, sizeOf, directoryWord, packOf, processOf, placeOf, fillOf}
 use Rattle.numbers.specs.declared.Cell.{Cell}
 use Rattle.numbers.specs.declared.Place.{Place}
-use Rattle.refusals.specs.Orders.{pick}
+use Rattle.logic.specs.Pick.{pick}
 use Rattle.lanes.specs.declared.Check.{Check}
 use Rattle.lanes.specs.declared.Check.the-variants as Check
 use Rattle.lanes.specs.declared.Stage.{Stage}

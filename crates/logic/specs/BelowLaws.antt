@@ -7,15 +7,8 @@ use Prim.Native.Nat.{ℕ, zero, suc, _+_, _<_}
 use native.Mathlib.Numerals.{add-one}
 use native.Mathlib.Omega.{arith}
 use native.Mathlib.Nat.{not-suc-le-zero, eq-or-lt-of-le}
-use Rattle.numbers.specs.Below.{below}
-
-pub and-left : (a b : Bool) → (a && b) ≡ true → a ≡ true
-and-left true b h = refl
-and-left false b h = h
-
-pub and-right : (a b : Bool) → (a && b) ≡ true → b ≡ true
-and-right true b h = h
-and-right false b h = let z : false ≡ true = h in cc
+use Rattle.logic.specs.Truth.{and-left, and-right}
+use Rattle.logic.specs.Below.{below}
 
 -- a test that passes below i, and at i, passes below i + 1
 pub below-more : (i : ℕ) (f : ℕ → Bool) → (below i f && f i) ≡ below (i + 1) f

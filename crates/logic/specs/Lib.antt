@@ -1,0 +1,4 @@
+pub mod Pick
+pub mod Truth
+pub mod Below
+pub mod BelowLaws
