@@ -1,9 +1,12 @@
 -- Each case of a beginning, as a law of its definition.
 -- Assumes nothing.
-use mathlib.Core.Path.{_≡_, _∙_}
+use mathlib.Core.Path.{_≡_}
 use mathlib.Core.Bool.{Bool, true, false, not}
 use Prim.Native.Nat.{ℕ, _<_, _≤_}
 use borrow.Author.Tests.{lt-ltb, le-ltb}
+use Rattle.numbers.specs.Cells.{cellFits}
+use Rattle.numbers.specs.declared.Cell.{Cell}
+use Rattle.numbers.specs.declared.Terms.{Terms}
 use Rattle.numbers.specs.Numbers.{mostProcesses}
 use Rattle.numbers.specs.declared.Cell.{Cell}
 use Rattle.logic.specs.Pick.{pick}
@@ -14,7 +17,7 @@ use Rattle.lanes.specs.Ranges.{idle}
 use Rattle.acts.specs.declared.Ask.{Ask}
 use Rattle.acts.specs.declared.Acted.{Acted}
 use Rattle.acts.specs.declared.Answer.the-variants as Answer
-use Rattle.acts.specs.Calls.{cellOf, opOf, refusedAs, begunOf}
+use Rattle.acts.specs.Calls.{opOf, refusedAs, withOp, begunOf}
 use Rattle.acts.specs.Inner.{laneAt}
 
 pub lane-low : (q : ℕ) → q < mostProcesses → q ≡ laneAt q
@@ -29,34 +32,35 @@ below-in fits p f h = (f h, rw h)
 pub op-arm : (a b : Ask) (o : Op) → a ≡ b → o ≡ opOf b → o ≡ opOf a
 op-arm a b o e h = rw e h
 
-module _ (fits : Bool) (p m top q : ℕ) (l : Lane) (a : Ask) (r : Acted) where
-  pub begun-9 : not fits ≡ true → r ≡ refusedAs l top Refusal.OutOfRange → r ≡ begunOf fits p m top q l a
+module _ (fits : Bool) (z : Terms) (top q : ℕ) (l : Lane) (i : Cell) (o : Op) (r : Acted) where
+  abbrev begins : Acted
+  begins = begunOf fits z top q l i o
+
+  pub begun-9 : not fits ≡ true → r ≡ refusedAs l top Refusal.OutOfRange → r ≡ begins
   unfolding begunOf
   begun-9 h e = simp h e
 
   module _ (fine : not fits ≡ false) where
-    pub begun-4 : p ≤ q → r ≡ refusedAs l top Refusal.NoSuchProcess → r ≡ begunOf fits p m top q l a
+    pub begun-4 : z .p ≤ q → r ≡ refusedAs l top Refusal.NoSuchProcess → r ≡ begins
     unfolding begunOf
     begun-4 h e = simp (fine, le-ltb _ _ h) e
 
-    module _ (low : q < p) (i : Bool) (at : i ≡ idle (l .op)) where
-      pub begun-6 : not i ≡ true → r ≡ refusedAs l top Refusal.UnderWay → r ≡ begunOf fits p m top q l a
+    module _ (low : q < z .p) (rests : Bool) (at : rests ≡ idle (l .op)) where
+      pub begun-6 : not rests ≡ true → r ≡ refusedAs l top Refusal.UnderWay → r ≡ begins
       unfolding begunOf
-      begun-6 h e = let k : not (idle (l .op)) ≡ true = rw (← at) h in simp (fine, lt-ltb _ _ low, k) e
+      begun-6 h e = let k : not (idle (l .op)) ≡ true = rw (← at) h in rw (fine, lt-ltb _ _ low, k) e
 
-      module _ (free : not i ≡ false) (c : Cell) (is : c ≡ cellOf a) where
-        pub begun-5 : m ≤ c .0 → r ≡ refusedAs l top Refusal.NoSuchCell → r ≡ begunOf fits p m top q l a
+      module _ (free : not rests ≡ false) (c : Bool) (in-grid : c ≡ cellFits z i) where
+        pub begun-5 : not c ≡ true → r ≡ refusedAs l top Refusal.NoSuchCell → r ≡ begins
         unfolding begunOf
         begun-5 h e =
             let k : not (idle (l .op)) ≡ false = rw (← at) free in
-            let j : m ≤ cellOf a .0 = rw (← is) h in
-            simp (fine, lt-ltb _ _ low, k, le-ltb _ _ j) e
+            let j : not (cellFits z i) ≡ true = rw (← in-grid) h in
+            rw (fine, lt-ltb _ _ low, k, j) e
 
-        pub begun-on : (o : Op) → c .0 < m → o ≡ opOf a
-            → r ≡ record { lane = record { marks = l .marks; drawn = l .drawn; steps = 0; op = o }; top = top; answer = Answer.Begun }
-            → r ≡ begunOf fits p m top q l a
+        pub begun-on : not c ≡ false → r ≡ record { lane = withOp l 0 o; top = top; answer = Answer.Begun } → r ≡ begins
         unfolding begunOf
-        begun-on o h f e =
+        begun-on h e =
             let k : not (idle (l .op)) ≡ false = rw (← at) free in
-            let j : cellOf a .0 < m = rw (← is) h in
-            simp (fine, lt-ltb _ _ low, k, lt-ltb _ _ j) (e ∙ rw f)
+            let j : not (cellFits z i) ≡ false = rw (← in-grid) h in
+            rw (fine, lt-ltb _ _ low, k, j) e

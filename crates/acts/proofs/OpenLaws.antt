@@ -1,71 +1,63 @@
 -- Each case of an opening, as a law of its definition.
 -- Assumes nothing.
 use mathlib.Core.Path.{_≡_, sym, _∙_}
-use mathlib.Core.Bool.{Bool, true, false}
+use mathlib.Core.Bool.{Bool, true, false, not}
 use mathlib.Core.List.{List}
-use Prim.Native.Nat.{ℕ, _<_, _≤_}
+use Prim.Native.Nat.{ℕ}
 use lib.Dec.{eqb}
 use lib.ListN.{length}
-use borrow.Author.Tests.{le-leb, lt-leb, eq-eqb, ne-eqb}
-use Rattle.numbers.specs.Numbers.{mostProcesses, mostCells, directoryWords, poolWords}
+use borrow.Author.Tests.{eq-eqb, ne-eqb, not-true, not-false}
+use Rattle.numbers.specs.Cells.{processesFit, cellsFit}
+use Rattle.numbers.specs.declared.Terms.{Terms}
+use Rattle.numbers.specs.Numbers.{directoryWords, poolWords}
 use Rattle.refusals.specs.declared.Refusal.{Refusal}
 use Rattle.refusals.specs.declared.Refusal.the-variants as Refusal
 use Rattle.steps.specs.Memory.{Memory, memory}
 use Rattle.acts.specs.declared.Opening.{Opening}
 use Rattle.acts.specs.declared.Opening.the-variants as Opening
 use Rattle.acts.specs.declared.Opened.{Opened}
-use Rattle.acts.specs.Calls.{lengthsFit, openingOf, fresh, openOf}
+use Rattle.acts.specs.Calls.{lengthsFit, openingOf, fresh, closed, openOf}
 
-module _ (p m : ℕ) (readings links directory pool : List ℕ) where
-  pub readings-differ : (length readings ≡ m → ⊥) → false ≡ lengthsFit p m (memory readings links directory pool)
+module _ (z : Terms) (readings links directory pool : List ℕ) where
+  abbrev lent : Memory
+  lent = memory readings links directory pool
+
+  pub readings-differ : (length readings ≡ z .m → ⊥) → false ≡ lengthsFit z lent
   readings-differ h = simp (ne-eqb _ _ h)
 
-  module _ (e : length readings ≡ m) where
-    pub links-differ : (length links ≡ m → ⊥) → false ≡ lengthsFit p m (memory readings links directory pool)
+  module _ (e : length readings ≡ z .m) where
+    pub links-differ : (length links ≡ z .m → ⊥) → false ≡ lengthsFit z lent
     links-differ h = simp (eq-eqb _ _ e, ne-eqb _ _ h)
 
-    module _ (f : length links ≡ m) (d : ℕ) (dd : d ≡ directoryWords p) where
-      pub directory-differs : (length directory ≡ d → ⊥) → false ≡ lengthsFit p m (memory readings links directory pool)
-      directory-differs h =
-          simp (eq-eqb _ _ e, eq-eqb _ _ f, ne-eqb (length directory) (directoryWords p) (λ (x : length directory ≡ directoryWords p). h (x ∙ sym dd)))
+    module _ (f : length links ≡ z .m) (d : ℕ) (dd : d ≡ directoryWords (z .p)) where
+      pub directory-differs : (length directory ≡ d → ⊥) → false ≡ lengthsFit z lent
+      directory-differs h = simp (eq-eqb _ _ e, eq-eqb _ _ f, ne-eqb (length directory) (directoryWords (z .p)) (λ x. h (x ∙ sym dd)))
 
-      pub pool-decides : (k : ℕ) → length directory ≡ d → k ≡ poolWords p m
-          → eqb (length pool) k ≡ lengthsFit p m (memory readings links directory pool)
+      pub pool-decides : (k : ℕ) → length directory ≡ d → k ≡ poolWords (z .p) (z .m) → eqb (length pool) k ≡ lengthsFit z lent
       pool-decides k g h = simp (eq-eqb _ _ e, eq-eqb _ _ f, eq-eqb _ _ (g ∙ dd)) (rw h)
 
-module _ (p m : ℕ) (mem : Memory) where
-  pub no-process : p < 1 → Opening.Refused Refusal.ProcessCount ≡ openingOf p m mem
+module _ (z : Terms) (mem : Memory) (p : Bool) (e : p ≡ processesFit (z .p)) where
+  pub no-processes : not p ≡ true → Opening.Refused Refusal.ProcessCount ≡ openingOf z mem
   unfolding openingOf
-  no-process h = simp (lt-leb _ _ h)
+  no-processes h = rw (sym e ∙ not-true p h)
 
-  module _ (p-low : 1 ≤ p) where
-    pub many-processes : mostProcesses < p → Opening.Refused Refusal.ProcessCount ≡ openingOf p m mem
+  module _ (h : not p ≡ false) (m : Bool) (f : m ≡ cellsFit (z .m)) where
+    pub no-cells : not m ≡ true → Opening.Refused Refusal.CellCount ≡ openingOf z mem
     unfolding openingOf
-    many-processes h = simp (le-leb _ _ p-low, lt-leb _ _ h)
+    no-cells k = rw (sym e ∙ not-false p h, sym f ∙ not-true m k)
 
-    module _ (p-high : p ≤ mostProcesses) where
-      pub no-cell : m < 1 → Opening.Refused Refusal.CellCount ≡ openingOf p m mem
+    module _ (k : not m ≡ false) (b : Bool) (g : b ≡ lengthsFit z mem) where
+      pub lengths-right : b ≡ true → Opening.Open ≡ openingOf z mem
       unfolding openingOf
-      no-cell h = simp (le-leb _ _ p-low, le-leb _ _ p-high, lt-leb _ _ h)
+      lengths-right j = rw (sym e ∙ not-false p h, sym f ∙ not-false m k, sym g ∙ j)
 
-      module _ (m-low : 1 ≤ m) where
-        pub many-cells : mostCells < m → Opening.Refused Refusal.CellCount ≡ openingOf p m mem
-        unfolding openingOf
-        many-cells h = simp (le-leb _ _ p-low, le-leb _ _ p-high, le-leb _ _ m-low, lt-leb _ _ h)
+      pub lengths-wrong : b ≡ false → Opening.Refused Refusal.LentLength ≡ openingOf z mem
+      unfolding openingOf
+      lengths-wrong j = rw (sym e ∙ not-false p h, sym f ∙ not-false m k, sym g ∙ j)
 
-        module _ (m-high : m ≤ mostCells) (b : Bool) (e : b ≡ lengthsFit p m mem) where
-          pub lengths-right : b ≡ true → Opening.Open ≡ openingOf p m mem
-          unfolding openingOf
-          lengths-right h = simp (le-leb _ _ p-low, le-leb _ _ p-high, le-leb _ _ m-low, le-leb _ _ m-high, sym e ∙ h)
-
-          pub lengths-wrong : b ≡ false → Opening.Refused Refusal.LentLength ≡ openingOf p m mem
-          unfolding openingOf
-          lengths-wrong h = simp (le-leb _ _ p-low, le-leb _ _ p-high, le-leb _ _ m-low, le-leb _ _ m-high, sym e ∙ h)
-
-module _ (p m first step : ℕ) (mem : Memory) (is : Opening) (e : is ≡ openingOf p m mem) (r : Opened) where
-  pub is-open : is ≡ Opening.Open → r ≡ record { state = fresh p m first step; opening = Opening.Open } → r ≡ openOf p m first step mem
+module _ (z : Terms) (mem : Memory) (is : Opening) (e : is ≡ openingOf z mem) (r : Opened) where
+  pub is-open : is ≡ Opening.Open → r ≡ record { state = fresh z; opening = Opening.Open } → r ≡ openOf z mem
   is-open h f = rw (← e, h) f
 
-  pub is-refused : (x : Refusal) → is ≡ Opening.Refused x → r ≡ record { state = fresh 0 0 0 0; opening = Opening.Refused x }
-      → r ≡ openOf p m first step mem
+  pub is-refused : (x : Refusal) → is ≡ Opening.Refused x → r ≡ record { state = fresh closed; opening = Opening.Refused x } → r ≡ openOf z mem
   is-refused x h f = rw (← e, h) f

@@ -10,20 +10,23 @@ use lib.ListN.{set}
 use lib.Seq.{set-getD}
 use borrow.Author.Tests.{lt-ltb, ltb-true}
 use Rattle.numbers.specs.Numbers.{mostProcesses, mostMarks}
-use Rattle.logic.specs.Truth.{and-right}
 use Rattle.logic.specs.Pick.{pick}
 use Rattle.refusals.specs.declared.Refusal.{Refusal}
 use Rattle.refusals.specs.declared.Refusal.the-variants as Refusal
+use Rattle.numbers.specs.Cells.{cellFits}
+use Rattle.numbers.specs.declared.Cell.{Cell}
+use Rattle.numbers.specs.declared.Terms.{Terms}
+use Rattle.steps.specs.declared.Turn.{Turn}
+use Rattle.steps.specs.Inner.{handed}
+use Rattle.steps.specs.Steps.{turnOf}
 use Rattle.lanes.specs.declared.Check.{Check}
 use Rattle.lanes.specs.declared.Check.the-variants as Check
-use Rattle.lanes.specs.declared.Stage.{Stage}
-use Rattle.lanes.specs.declared.Stage.the-variants as Stage
 use Rattle.lanes.specs.declared.Op.{Op}
 use Rattle.lanes.specs.declared.Op.the-variants as Op
 use Rattle.lanes.specs.declared.Lane.{Lane}
 use Rattle.lanes.specs.declared.State.{State}
-use Rattle.lanes.specs.Ranges.{rest, laneOf, idle, checkFits, stageFits, opFits, sizesFit, stateFits}
-use Rattle.lanes.specs.Laws.{sized, lane-ok, sizes-of, lane-of}
+use Rattle.lanes.specs.Ranges.{rest, laneOf, marksOf, idle, checkFits, opFits, sizesFit, stateFits}
+use Rattle.lanes.specs.Laws.{sized, lane-ok, rest-fits, sizes-of, lane-of}
 use Rattle.lanes.specs.Scan.{Passed, passed-all}
 use Rattle.steps.specs.declared.Next.{Next}
 use Rattle.steps.specs.declared.Next.the-variants as Next
@@ -35,41 +38,33 @@ use Rattle.acts.specs.declared.Acted.{Acted}
 use Rattle.acts.specs.declared.Verdict.{Verdict}
 use Rattle.acts.specs.declared.Verdict.the-variants as Verdict
 use Rattle.acts.specs.declared.Stepped.{Stepped}
-use Rattle.acts.specs.Calls.{lengthsFit, cellOf, opOf, refusedAs, answerOf, begunOf, beginOf, verdictOf, sizesOf, namedIn, namedAt, named, seenBy, Effect, effect, effectOf, actOf, outcome, stepOf, steppedAs, outcomeAs}
-use Rattle.acts.specs.Inner.{laneAt, changes, Judged}
+use Rattle.acts.specs.Calls.{lengthsFit, cellOf, opOf, refusedAs, withOp, answerOf, begunOf, beginOf, verdictOf, turnIn, stepBy, stepOf}
+use Rattle.acts.specs.Calls.{Effect, effect, effectOf, actOf, outcome, steppedAs, outcomeAs}
+use Rattle.acts.specs.Inner.{laneAt, changes, Judged, namedIn, named, handed-turn}
 
 -- past the last lane in use, the state has been looked at
-pub loop-end : (t : State) (b : Bool) (end i : ℕ) (fits : Bool) → b ≡ sizesFit (t .p) (t .m) (t .top) → end ≡ pick b (t .p) 0 → i ≤ end → end ≤ i
+pub loop-end : (t : State) (b : Bool) (end i : ℕ) (fits : Bool) → b ≡ sizesFit (t .terms) (t .top) → end ≡ pick b (t .terms .p) 0 → i ≤ end → end ≤ i
     → Passed t i fits → fits ≡ stateFits t
 loop-end t b end i fits e f low high h = passed-all t b i fits e is-p h
   where
-    is-p : b ≡ true → i ≡ t .p
-    is-p x = let k : end ≡ t .p = f ∙ rw x refl in omega arith
+    is-p : b ≡ true → i ≡ t .terms .p
+    is-p x = let k : end ≡ t .terms .p = f ∙ rw x refl in omega arith
 
 -- the process that a lane in its range names is one of the grid's, or 0
-named-in : (p m : ℕ) (c : Check) → 1 ≤ p → checkFits p m c ≡ true → namedIn c < p
-named-in p m Check.Link h e = omega arith
-named-in p m (Check.Marks w) h e = ltb-true _ _ e
-named-in p m (Check.Directory w) h e = omega arith
-named-in p m (Check.Mark start w) h e = omega arith
+named-in : (z : Terms) (c : Check) → 1 ≤ z .p → checkFits z c ≡ true → namedIn c < z .p
+named-in z Check.Link h e = omega arith
+named-in z (Check.Marks w) h e = ltb-true _ _ e
+named-in z (Check.Directory w) h e = omega arith
+named-in z (Check.Mark start w) h e = omega arith
 
-named-at : (p m : ℕ) (t : Stage) → 1 ≤ p → stageFits p m t ≡ true → namedAt t < p
-named-at p m (Stage.Store v) h e = omega arith
-named-at p m (Stage.Check c) h e = named-in p m c h e
-named-at p m (Stage.Draw b w n) h e = omega arith
-named-at p m (Stage.Enter b start w n) h e = omega arith
-named-at p m (Stage.Tombstone w n) h e = omega arith
-named-at p m (Stage.Mark w n) h e = omega arith
-named-at p m (Stage.Force w n) h e = omega arith
-named-at p m (Stage.Swap w n) h e = omega arith
-named-at p m (Stage.TakeBack n) h e = omega arith
-
-named-of : (p m steps : ℕ) (o : Op) → 1 ≤ p → opFits p m steps o ≡ true → named o < p
-named-of p m steps Op.Idle h e = omega arith
-named-of p m steps (Op.Read i c) h e = named-in p m c h (and-right (ltb (i .0) m) (checkFits p m c) e)
-named-of p m steps (Op.Reading i) h e = omega arith
-named-of p m steps (Op.Asked i c) h e = named-in p m c h (and-right (ltb (i .0) m) (checkFits p m c) e)
-named-of p m steps (Op.Write i t) h e = named-at p m t h (and-right (ltb (i .0) m) (stageFits p m t) e)
+named-of : (z : Terms) (steps : ℕ) (o : Op) → 1 ≤ z .p → opFits z steps o ≡ true → named o < z .p
+named-of z steps Op.Idle h e = omega arith
+named-of z steps (Op.Read i c) h e = named-in z c h (rest-fits z steps (Op.Read i c) refl e)
+named-of z steps (Op.Reading i) h e = omega arith
+named-of z steps (Op.Asked i c) h e = named-in z c h (rest-fits z steps (Op.Asked i c) refl e)
+named-of z steps (Op.Store i v) h e = omega arith
+named-of z steps (Op.Write i c) h e = named-in z c h (rest-fits z steps (Op.Write i c) refl e)
+named-of z steps (Op.Marking i k) h e = omega arith
 
 -- a step that is no refusal answers none
 moved-changes : (n : ℕ) (next : Next) → changes (answerOf n next) ≡ true
@@ -86,26 +81,27 @@ module _ (s : State) (q k : ℕ) (at : k ≡ laneAt q) (l : Lane) (is : l ≡ la
   own-lanes : set (s .lanes) q (laneOf s q) ≡ s .lanes
   own-lanes = set-getD (s .lanes) q rest
 
-  module _ (fine : stateFits s ≡ true) (low : q < s .p) where
+  module _ (fine : stateFits s ≡ true) (low : q < s .terms .p) where
     lane-q : k ≡ q
-    lane-q = let few = sized (s .p) (s .m) (s .top) (sizes-of s fine) .p-high in at ∙ simp (lt-ltb q mostProcesses (omega arith))
+    lane-q = let few = sized (s .terms) (s .top) (sizes-of s fine) .p-high in at ∙ simp (lt-ltb q mostProcesses (omega arith))
 
     is-q : l ≡ laneOf s q
     is-q = is ∙ ap (laneOf s) lane-q
 
-  -- a call on the lane at k comes to the call on process q's lane, where it is the same; else both leave the state
-  begun-by : (a : Ask) (x : Bool) → stateFits s ≡ x → (y : Bool) → ltb q (s .p) ≡ y
-      → steppedAs s k (begunOf (stateFits s) (s .p) (s .m) (s .top) q l a) ≡ beginOf s q a
-  unfolding begunOf
-  begun-by a true h true g =
-      let low = ltb-true q (s .p) g in
-      rw (is-q h low, lane-q h low)
-  begun-by a true h false g = simp (h, g) (rw (same-lanes, own-lanes))
-  begun-by a false h y g = simp h (rw (same-lanes, own-lanes))
+  abbrev begins : Bool → Lane → Cell → Op → Acted
+  begins fits lane i o = begunOf fits (s .terms) (s .top) q lane i o
 
-  pub begun-is : (fits : Bool) (a : Ask) (b : Acted) → fits ≡ stateFits s → b ≡ begunOf fits (s .p) (s .m) (s .top) q l a
-      → steppedAs s k b ≡ beginOf s q a
-  begun-is fits a b e f = rw (f, e) (begun-by a (stateFits s) refl (ltb q (s .p)) refl)
+  -- a call on the lane at k comes to the call on process q's lane, where it is the same; else both leave the state
+  begun-by : (i : Cell) (o : Op) (x : Bool) → stateFits s ≡ x → (y : Bool) → ltb q (s .terms .p) ≡ y
+      → steppedAs s k (begins (stateFits s) l i o) ≡ steppedAs s q (begins (stateFits s) (laneOf s q) i o)
+  unfolding begunOf
+  begun-by i o true h true g = let low = ltb-true q (s .terms .p) g in rw (is-q h low, lane-q h low)
+  begun-by i o true h false g = rw (h, g) (rw (same-lanes, own-lanes))
+  begun-by i o false h y g = rw h (rw (same-lanes, own-lanes))
+
+  pub begun-is : (fits : Bool) (a : Ask) (i : Cell) (o : Op) (b : Acted) → fits ≡ stateFits s → i ≡ cellOf a → o ≡ opOf a
+      → b ≡ begunOf fits (s .terms) (s .top) q l i o → steppedAs s k b ≡ beginOf s q a
+  begun-is fits a i o b e c d f = rw (f, e, c, d) (begun-by (cellOf a) (opOf a) (stateFits s) refl (ltb q (s .terms .p)) refl)
 
   abbrev pub unchanged : Answer → Stepped
   unchanged a = record { state = s; answer = a }
@@ -115,19 +111,22 @@ module _ (s : State) (q k : ℕ) (at : k ≡ laneAt q) (l : Lane) (is : l ≡ la
   refused-is b r f = rw f (ap (λ (x : List Lane). stepped x) (sym same-lanes))
     where
       stepped : List Lane → Stepped
-      stepped x = record { state = record { p = s .p; m = s .m; first = s .first; step = s .step; top = s .top; lanes = x }; answer = Answer.Refused r }
+      stepped x = record { state = record { terms = s .terms; top = s .top; lanes = x }; answer = Answer.Refused r }
 
-  pub begun-kept : (fits : Bool) (a : Ask) (b : Acted) → b ≡ begunOf fits (s .p) (s .m) (s .top) q l a → changes (b .answer) ≡ false
+  pub begun-kept : (fits : Bool) (i : Cell) (o : Op) (b : Acted) → b ≡ begunOf fits (s .terms) (s .top) q l i o → changes (b .answer) ≡ false
       → unchanged (b .answer) ≡ steppedAs s k b
   unfolding begunOf
-  begun-kept fits a b e h = by fits (ltb q (s .p)) (idle (l .op)) (ltb (cellOf a .0) (s .m)) e
+  begun-kept fits i o b e h = by fits (ltb q (s .terms .p)) (idle (l .op)) (cellFits (s .terms) i) e
     where
+      refuse : Refusal → Acted
+      refuse = refusedAs l (s .top)
+
       begun : Acted
-      begun = record { lane = record { marks = l .marks; drawn = l .drawn; steps = 0; op = opOf a }; top = s .top; answer = Answer.Begun }
+      begun = record { lane = withOp l 0 o; top = s .top; answer = Answer.Begun }
 
       by : (w x y z : Bool)
-          → b ≡ pick (not w) (refusedAs l (s .top) Refusal.OutOfRange) (pick (not x) (refusedAs l (s .top) Refusal.NoSuchProcess)
-          (pick (not y) (refusedAs l (s .top) Refusal.UnderWay) (pick (not z) (refusedAs l (s .top) Refusal.NoSuchCell) begun)))
+          → b ≡ pick (not w) (refuse Refusal.OutOfRange) (pick (not x) (refuse Refusal.NoSuchProcess)
+          (pick (not y) (refuse Refusal.UnderWay) (pick (not z) (refuse Refusal.NoSuchCell) begun)))
           → unchanged (b .answer) ≡ steppedAs s k b
       by false x y z f = refused-is b Refusal.OutOfRange f
       by true false y z f = refused-is b Refusal.NoSuchProcess f
@@ -135,57 +134,69 @@ module _ (s : State) (q k : ℕ) (at : k ≡ laneAt q) (l : Lane) (is : l ≡ la
       by true true true false f = refused-is b Refusal.NoSuchCell f
       by true true true true f = let g : true ≡ false = sym (ap (λ (x : Acted). changes (x .answer)) f) ∙ h in cc
 
+  -- a step on the lane at k, whose turn is that of process q's lane where it is the same
+  module _ (mem : Memory) (t u : Turn) (same : stateFits s ≡ true → q < s .terms .p → t ≡ u) where
+    acts-by : (x : Bool) → stateFits s ≡ x → (y : Bool) → ltb q (s .terms .p) ≡ y → (z : Bool) → lengthsFit (s .terms) mem ≡ z
+        → outcomeAs s k (actOf (stateFits s) (s .terms) (s .top) q l mem t) ≡ stepBy s q mem u
+    unfolding verdictOf
+    acts-by true h true g z i = let low = ltb-true q (s .terms .p) g in rw (same h low, is-q h low, lane-q h low)
+    acts-by true h false g true i = rw (h, i, g) (rw (same-lanes, own-lanes))
+    acts-by true h false g false i = rw (h, i) (rw (same-lanes, own-lanes))
+    acts-by false h y g z i = rw h (rw (same-lanes, own-lanes))
+
+    pub acted-is : (fits : Bool) (mem′ : Memory) (b : Acted) → fits ≡ stateFits s
+        → effect b mem′ ≡ actOf fits (s .terms) (s .top) q l mem t → outcome (steppedAs s k b) mem′ ≡ stepBy s q mem u
+    acted-is fits mem′ b e f =
+        ap (outcomeAs s k) f
+        ∙ rw e (acts-by (stateFits s) refl (ltb q (s .terms .p)) refl (lengthsFit (s .terms) mem) refl)
+
+  pub moved-kept : (v : Verdict) (mem mem′ : Memory) (b : Acted) → effect b mem′ ≡ effectOf l (s .top) mem v → changes (b .answer) ≡ false
+      → unchanged (b .answer) ≡ steppedAs s k b
+  moved-kept (Verdict.Refused r) mem mem′ b e h = refused-is b r (ap (λ (x : Effect). x .acted) e)
+  moved-kept (Verdict.Moved ch nx) mem mem′ b e h =
+      let f : b .answer ≡ answerOf (l .steps) nx = ap (λ (x : Effect). x .acted .answer) e in
+      let g : true ≡ false = sym (moved-changes (l .steps) nx) ∙ sym (ap changes f) ∙ h in
+      cc
+
+  -- the marks in force that the step reads, looked up before it
   module _ (j : ℕ) (other : Lane) (from : j ≡ laneAt (named (l .op))) (sees : other ≡ laneOf s j) where
-    seen-is : stateFits s ≡ true → q < s .p → other .marks ≡ seenBy s q
-    seen-is h low =
-        let size = sized (s .p) (s .m) (s .top) (sizes-of s h) in
-        let few = size .p-high in
-        let some = size .p-low in
-        let ok = lane-ok (s .p) (s .m) (laneOf s q) (lane-of s h q low) .op in
-        let small = named-of (s .p) (s .m) (laneOf s q .steps) (laneOf s q .op) some ok in
-        let here : named (l .op) ≡ named (laneOf s q .op) = ap (λ (x : Lane). named (x .op)) (is-q h low) in
-        let at′ : j ≡ named (laneOf s q .op) = from ∙ ap laneAt here ∙ simp (lt-ltb (named (laneOf s q .op)) mostProcesses (omega arith)) in
-        ap (λ (x : Lane). x .marks) (sees ∙ ap (laneOf s) at′)
+    module _ (h : stateFits s ≡ true) (low : q < s .terms .p) where
+      small : named (laneOf s q .op) < s .terms .p
+      small =
+          named-of (s .terms) (laneOf s q .steps) (laneOf s q .op) (sized (s .terms) (s .top) (sizes-of s h) .p-low)
+          (lane-ok (s .terms) (laneOf s q) (lane-of s h q low) .op)
 
-    few-marks : stateFits s ≡ true → q < s .p → other .marks ≤ mostMarks (s .m)
-    few-marks h low =
-        let size = sized (s .p) (s .m) (s .top) (sizes-of s h) in
-        let ok = lane-ok (s .p) (s .m) (laneOf s q) (lane-of s h q low) .op in
-        let small = named-of (s .p) (s .m) (laneOf s q .steps) (laneOf s q .op) (size .p-low) ok in
-        rw (seen-is h low) (lane-ok (s .p) (s .m) (laneOf s (named (laneOf s q .op))) (lane-of s h (named (laneOf s q .op)) small) .marks)
+      seen-is : other .marks ≡ marksOf s (named (laneOf s q .op))
+      seen-is =
+          let few = sized (s .terms) (s .top) (sizes-of s h) .p-high in
+          let here : named (l .op) ≡ named (laneOf s q .op) = ap (λ (x : Lane). named (x .op)) (is-q h low) in
+          let at′ : j ≡ named (laneOf s q .op) =
+          from ∙ ap laneAt here ∙ simp (lt-ltb (named (laneOf s q .op)) mostProcesses (omega (arith, small))) in
+          ap (λ (x : Lane). x .marks) (sees ∙ ap (laneOf s) at′)
 
-    pub judged-at : (fits : Bool) → fits ≡ stateFits s → Judged fits (sizesOf s) q l (other .marks)
+      few-marks : other .marks ≤ mostMarks (s .terms .m)
+      few-marks = rw seen-is (lane-ok (s .terms) (laneOf s (named (laneOf s q .op))) (lane-of s h (named (laneOf s q .op)) small) .marks)
+
+      handed-is : (mem : Memory) → turnOf (s .terms) (s .top) q l (handed (other .marks)) mem ≡ turnIn s q mem
+      handed-is mem = rw (is-q h low, seen-is) (handed-turn (s .terms) (s .top) q (laneOf s q) (marksOf s) mem (laneOf s q .op))
+
+    pub judged-at : (fits : Bool) → fits ≡ stateFits s → Judged fits (s .terms) (s .top) q l (other .marks)
     judged-at fits e = record {
       sizes = λ h. sizes-of s (sym e ∙ h);
       lane = λ h low. let fine : stateFits s ≡ true = sym e ∙ h in rw (is-q fine low) (lane-of s fine q low);
       marks = λ h low. few-marks (sym e ∙ h) low;
     }
 
-    step-by : (mem : Memory) (x : Bool) → stateFits s ≡ x → (y : Bool) → ltb q (s .p) ≡ y → (z : Bool) → lengthsFit (s .p) (s .m) mem ≡ z
-        → outcomeAs s k (actOf (stateFits s) (sizesOf s) q l (other .marks) mem) ≡ stepOf s q mem
-    unfolding verdictOf
-    step-by mem true h true g z i =
-        let low = ltb-true q (s .p) g in
-        rw (seen-is h low, is-q h low, lane-q h low)
-    step-by mem true h false g true i = simp (h, i, g) (rw (same-lanes, own-lanes))
-    step-by mem true h false g false i = simp (h, i) (rw (same-lanes, own-lanes))
-    step-by mem false h y g z i = simp h (rw (same-lanes, own-lanes))
-
-    pub moved-kept : (v : Verdict) (mem mem′ : Memory) (b : Acted) → effect b mem′ ≡ effectOf l (s .top) mem v → changes (b .answer) ≡ false
-        → unchanged (b .answer) ≡ steppedAs s k b
-    moved-kept (Verdict.Refused r) mem mem′ b e h = refused-is b r (ap (λ (x : Effect). x .acted) e)
-    moved-kept (Verdict.Moved ch nx) mem mem′ b e h =
-        let f : b .answer ≡ answerOf (l .steps) nx = ap (λ (x : Effect). x .acted .answer) e in
-        let g : true ≡ false = sym (moved-changes (l .steps) nx) ∙ sym (ap changes f) ∙ h in
-        cc
-
     pub step-is : (fits : Bool) (mem mem′ : Memory) (b : Acted) → fits ≡ stateFits s
-        → effect b mem′ ≡ actOf fits (sizesOf s) q l (other .marks) mem → outcome (steppedAs s k b) mem′ ≡ stepOf s q mem
+        → effect b mem′ ≡ actOf fits (s .terms) (s .top) q l mem (turnOf (s .terms) (s .top) q l (handed (other .marks)) mem)
+        → outcome (steppedAs s k b) mem′ ≡ stepOf s q mem
     step-is fits mem mem′ b e f =
-        ap (outcomeAs s k) f
-        ∙ rw e (step-by mem (stateFits s) refl (ltb q (s .p)) refl (lengthsFit (s .p) (s .m) mem) refl)
+        acted-is mem (turnOf (s .terms) (s .top) q l (handed (other .marks)) mem) (turnIn s q mem) (λ h low. handed-is h low mem) fits mem′ b e f
 
     pub step-kept : (fits : Bool) (mem mem′ : Memory) (b : Acted) → fits ≡ stateFits s
-        → effect b mem′ ≡ actOf fits (sizesOf s) q l (other .marks) mem → changes (b .answer) ≡ false → outcome (unchanged (b .answer)) mem′ ≡ stepOf s q mem
+        → effect b mem′ ≡ actOf fits (s .terms) (s .top) q l mem (turnOf (s .terms) (s .top) q l (handed (other .marks)) mem)
+        → changes (b .answer) ≡ false → outcome (unchanged (b .answer)) mem′ ≡ stepOf s q mem
     step-kept fits mem mem′ b e f h =
-        ap (λ (x : Stepped). outcome x mem′) (moved-kept (verdictOf fits (sizesOf s) q l (other .marks) mem) mem mem′ b f h) ∙ step-is fits mem mem′ b e f
+        ap (λ (x : Stepped). outcome x mem′)
+        (moved-kept (verdictOf fits (s .terms) (s .top) q l mem (turnOf (s .terms) (s .top) q l (handed (other .marks)) mem)) mem mem′ b f h)
+        ∙ step-is fits mem mem′ b e f

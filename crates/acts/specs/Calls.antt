@@ -5,22 +5,20 @@ use mathlib.Core.Bool.{Bool, not, _&&_}
 use mathlib.Core.List.{List, [], _∷_}
 use lib.Dec.{leb, ltb, eqb}
 use lib.ListN.{length, set, replicate}
-use Rattle.numbers.specs.Numbers.{mostProcesses, mostCells, directoryWords, poolWords, processOf}
+use Rattle.numbers.specs.Numbers.{mostProcesses, directoryWords, poolWords}
+use Rattle.numbers.specs.Cells.{processesFit, cellsFit, cellFits}
 use Rattle.numbers.specs.declared.Cell.{Cell}
+use Rattle.numbers.specs.declared.Terms.{Terms}
 use Rattle.refusals.specs.Orders.{Rule, _gives_, orders}
 use Rattle.logic.specs.Pick.{pick}
 use Rattle.refusals.specs.declared.Refusal.{Refusal}
 use Rattle.refusals.specs.declared.Refusal.the-variants as Refusal
-use Rattle.lanes.specs.declared.Check.{Check}
 use Rattle.lanes.specs.declared.Check.the-variants as Check
-use Rattle.lanes.specs.declared.Stage.{Stage}
-use Rattle.lanes.specs.declared.Stage.the-variants as Stage
 use Rattle.lanes.specs.declared.Op.{Op}
 use Rattle.lanes.specs.declared.Op.the-variants as Op
 use Rattle.lanes.specs.declared.Lane.{Lane}
 use Rattle.lanes.specs.declared.State.{State}
-use Rattle.lanes.specs.Ranges.{rest, laneOf, idle, laneFits, stateFits}
-use Rattle.steps.specs.declared.Sizes.{Sizes}
+use Rattle.lanes.specs.Ranges.{rest, laneOf, marksOf, idle, laneFits, stateFits}
 use Rattle.steps.specs.declared.Change.{Change}
 use Rattle.steps.specs.declared.Next.{Next}
 use Rattle.steps.specs.declared.Next.the-variants as Next
@@ -42,95 +40,108 @@ use Rattle.acts.specs.declared.Verdict.{Verdict}
 use Rattle.acts.specs.declared.Verdict.the-variants as Verdict
 
 -- Lent memory: readings m, links m, directory 17p, pool 4m + 2p. Lengths are exact.
-abbrev pub lengthsFit : ℕ → ℕ → Memory → Bool
-lengthsFit p m mem =
-    eqb (length (mem .readings)) m
-    && (eqb (length (mem .links)) m && (eqb (length (mem .directory)) (directoryWords p) && eqb (length (mem .pool)) (poolWords p m)))
+abbrev pub lengthsFit : Terms → Memory → Bool
+lengthsFit z mem =
+    eqb (length (mem .readings)) (z .m)
+    && (eqb (length (mem .links)) (z .m)
+    && (eqb (length (mem .directory)) (directoryWords (z .p)) && eqb (length (mem .pool)) (poolWords (z .p) (z .m))))
 
 -- OPEN: 1, 2, 3.
-abbrev pub openRefusals : ℕ → ℕ → Memory → List Rule
-openRefusals p m mem =
-    not (leb 1 p && leb p mostProcesses) gives Refusal.ProcessCount ∷ not (leb 1 m && leb m mostCells) gives Refusal.CellCount
-    ∷ not (lengthsFit p m mem) gives Refusal.LentLength ∷ []
+abbrev pub openRefusals : Terms → Memory → List Rule
+openRefusals z mem =
+    not (processesFit (z .p)) gives Refusal.ProcessCount
+    ∷ not (cellsFit (z .m)) gives Refusal.CellCount
+    ∷ not (lengthsFit z mem) gives Refusal.LentLength
+    ∷ []
 
-unfoldable pub openingOf : ℕ → ℕ → Memory → Opening
-openingOf p m mem = orders Opening.Refused (openRefusals p m mem) Opening.Open
+unfoldable pub openingOf : Terms → Memory → Opening
+openingOf z mem = orders Opening.Refused (openRefusals z mem) Opening.Open
 
 -- Open sets every lane's counts and the pool's top to 0, with no operation under way.
-abbrev pub fresh : ℕ → ℕ → ℕ → ℕ → State
-fresh p m first step = record { p = p; m = m; first = first; step = step; top = 0; lanes = replicate mostProcesses rest }
+abbrev pub fresh : Terms → State
+fresh z = record { terms = z; top = 0; lanes = replicate mostProcesses rest }
 
 -- A refused open gives no state to use: the closed one, whose p is out of range.
-abbrev pub openedAs : ℕ → ℕ → ℕ → ℕ → Opening → Opened
-openedAs p m first step Opening.Open = record { state = fresh p m first step; opening = Opening.Open }
-openedAs p m first step (Opening.Refused r) = record { state = fresh 0 0 0 0; opening = Opening.Refused r }
+abbrev pub closed : Terms
+closed = record { p = 0; m = 0; first = 0; step = 0 }
 
-abbrev pub openOf : ℕ → ℕ → ℕ → ℕ → Memory → Opened
-openOf p m first step mem = openedAs p m first step (openingOf p m mem)
+abbrev pub openedAs : Terms → Opening → Opened
+openedAs z Opening.Open = record { state = fresh z; opening = Opening.Open }
+openedAs z (Opening.Refused r) = record { state = fresh closed; opening = Opening.Refused r }
+
+abbrev pub openOf : Terms → Memory → Opened
+openOf z mem = openedAs z (openingOf z mem)
 
 -- A state with another lane of process q, and another top.
 abbrev pub settled : State → ℕ → Lane → ℕ → State
-settled s q l top = record { p = s .p; m = s .m; first = s .first; step = s .step; top = top; lanes = set (s .lanes) q l }
+settled s q l top = record { terms = s .terms; top = top; lanes = set (s .lanes) q l }
 
 -- BEGIN: 9 (state), 4, 6, 5.
+abbrev pub beginRefusals : Bool → Terms → ℕ → Lane → Cell → List Rule
+beginRefusals fits z q l i =
+    not fits gives Refusal.OutOfRange
+    ∷ not (ltb q (z .p)) gives Refusal.NoSuchProcess
+    ∷ not (idle (l .op)) gives Refusal.UnderWay
+    ∷ not (cellFits z i) gives Refusal.NoSuchCell
+    ∷ []
+
+abbrev pub refusedAs : Lane → ℕ → Refusal → Acted
+refusedAs l top r = record { lane = l; top = top; answer = Answer.Refused r }
+
+-- The operation goes on with so many steps, or there is none.
+abbrev pub withOp : Lane → ℕ → Op → Lane
+withOp l steps o = record { marks = l .marks; drawn = l .drawn; steps = steps; op = o }
+
+-- Beginning an operation on cell i is not a step and touches no memory: the lane then has the operation o.
+unfoldable pub begunOf : Bool → Terms → ℕ → ℕ → Lane → Cell → Op → Acted
+begunOf fits z top q l i o =
+    orders (refusedAs l top) (beginRefusals fits z q l i) (record { lane = withOp l 0 o; top = top; answer = Answer.Begun })
+
+abbrev pub steppedAs : State → ℕ → Acted → Stepped
+steppedAs s q b = record { state = settled s q (b .lane) (b .top); answer = b .answer }
+
+-- What may be asked: a read, a write or an asked of a cell; each begins with its first step.
 abbrev pub cellOf : Ask → Cell
 cellOf (Ask.Read i) = i
 cellOf (Ask.Write i v) = i
 cellOf (Ask.Asked i) = i
 
-abbrev pub beginRefusals : Bool → ℕ → ℕ → ℕ → Lane → Ask → List Rule
-beginRefusals fits p m q l a =
-    not fits gives Refusal.OutOfRange ∷ not (ltb q p) gives Refusal.NoSuchProcess ∷ not (idle (l .op)) gives Refusal.UnderWay
-    ∷ not (ltb (cellOf a .0) m) gives Refusal.NoSuchCell ∷ []
-
--- Beginning an operation is not a step and touches no memory.
 abbrev pub opOf : Ask → Op
 opOf (Ask.Read i) = Op.Read i Check.Link
-opOf (Ask.Write i v) = Op.Write i (Stage.Store v)
+opOf (Ask.Write i v) = Op.Store i v
 opOf (Ask.Asked i) = Op.Asked i Check.Link
 
-abbrev pub refusedAs : Lane → ℕ → Refusal → Acted
-refusedAs l top r = record { lane = l; top = top; answer = Answer.Refused r }
-
-unfoldable pub begunOf : Bool → ℕ → ℕ → ℕ → ℕ → Lane → Ask → Acted
-begunOf fits p m top q l a =
-    orders (refusedAs l top) (beginRefusals fits p m q l a)
-    (record { lane = record { marks = l .marks; drawn = l .drawn; steps = 0; op = opOf a }; top = top; answer = Answer.Begun })
-
-abbrev pub steppedAs : State → ℕ → Acted → Stepped
-steppedAs s q b = record { state = settled s q (b .lane) (b .top); answer = b .answer }
-
 abbrev pub beginOf : State → ℕ → Ask → Stepped
-beginOf s q a = steppedAs s q (begunOf (stateFits s) (s .p) (s .m) (s .top) q (laneOf s q) a)
+beginOf s q a = steppedAs s q (begunOf (stateFits s) (s .terms) (s .top) q (laneOf s q) (cellOf a) (opOf a))
 
 -- STEP: 9 (state), 8, 4, 7,
-abbrev pub stepRefusals : Bool → ℕ → ℕ → Memory → ℕ → Lane → List Rule
-stepRefusals fits p m mem q l =
-    not fits gives Refusal.OutOfRange ∷ not (lengthsFit p m mem) gives Refusal.OtherLengths ∷ not (ltb q p) gives Refusal.NoSuchProcess
-    ∷ idle (l .op) gives Refusal.NothingUnderWay ∷ []
+abbrev pub stepRefusals : Bool → Terms → Memory → ℕ → Lane → List Rule
+stepRefusals fits z mem q l =
+    not fits gives Refusal.OutOfRange
+    ∷ not (lengthsFit z mem) gives Refusal.OtherLengths
+    ∷ not (ltb q (z .p)) gives Refusal.NoSuchProcess
+    ∷ idle (l .op) gives Refusal.NothingUnderWay
+    ∷ []
 
 -- then 9 (word, draw or new number): a word lies outside its memory, or a number of the state would leave its range.
 -- The operation goes on with one step more, or ends; a lane with no operation under way has taken none.
-abbrev pub withOp : Lane → ℕ → Op → Lane
-withOp l steps o = record { marks = l .marks; drawn = l .drawn; steps = steps; op = o }
-
 abbrev pub advance : Next → Lane → Lane
 advance (Next.Going o) l = withOp l (l .steps + 1) o
 advance (Next.Read v b) l = withOp l 0 Op.Idle
 advance Next.Written l = withOp l 0 Op.Idle
 advance (Next.Asked b) l = withOp l 0 Op.Idle
 
-abbrev pub numbersFit : Sizes → Lane → Change → Next → Bool
-numbersFit z l change next =
-    leb (topAfter change (z .top)) (poolWords (z .p) (z .m)) && laneFits (z .p) (z .m) (advance next (laneAfter change l))
+abbrev pub numbersFit : Terms → ℕ → Lane → Change → Next → Bool
+numbersFit z top l change next = leb (topAfter change top) (poolWords (z .p) (z .m)) && laneFits z (advance next (laneAfter change l))
 
-abbrev pub decided : Sizes → Lane → Turn → Verdict
-decided z l Turn.Outside = Verdict.Refused Refusal.OutOfRange
-decided z l (Turn.Turned change next) = pick (numbersFit z l change next) (Verdict.Moved change next) (Verdict.Refused Refusal.OutOfRange)
+abbrev pub decided : Terms → ℕ → Lane → Turn → Verdict
+decided z top l Turn.Outside = Verdict.Refused Refusal.OutOfRange
+decided z top l (Turn.Turned change next) =
+    pick (numbersFit z top l change next) (Verdict.Moved change next) (Verdict.Refused Refusal.OutOfRange)
 
-unfoldable pub verdictOf : Bool → Sizes → ℕ → Lane → ℕ → Memory → Verdict
-verdictOf fits z q l seen mem =
-    orders Verdict.Refused (stepRefusals fits (z .p) (z .m) mem q l) (decided z l (turnOf z q l seen mem))
+-- What a step comes to whose turn is t.
+unfoldable pub verdictOf : Bool → Terms → ℕ → ℕ → Lane → Memory → Turn → Verdict
+verdictOf fits z top q l mem t = orders Verdict.Refused (stepRefusals fits z mem q l) (decided z top l t)
 
 -- The answer says how many of its own steps a finished operation took.
 abbrev pub answerOf : ℕ → Next → Answer
@@ -154,39 +165,8 @@ effectOf l top mem (Verdict.Moved change next) =
     (record { lane = advance next (laneAfter change l); top = topAfter change top; answer = answerOf (l .steps) next })
     (memoryAfter change mem)
 
-abbrev pub actOf : Bool → Sizes → ℕ → Lane → ℕ → Memory → Effect
-actOf fits z q l seen mem = effectOf l (z .top) mem (verdictOf fits z q l seen mem)
-
--- The process whose marks in force the next step reads, in (b); 0 where it reads none.
-abbrev pub namedIn : Check → ℕ
-namedIn Check.Link = 0
-namedIn (Check.Marks link) = processOf link
-namedIn (Check.Directory link) = 0
-namedIn (Check.Mark start link) = 0
-
-abbrev pub namedAt : Stage → ℕ
-namedAt (Stage.Store v) = 0
-namedAt (Stage.Check c) = namedIn c
-namedAt (Stage.Draw stored link n) = 0
-namedAt (Stage.Enter stored start link n) = 0
-namedAt (Stage.Tombstone link n) = 0
-namedAt (Stage.Mark link n) = 0
-namedAt (Stage.Force link n) = 0
-namedAt (Stage.Swap link n) = 0
-namedAt (Stage.TakeBack n) = 0
-
-abbrev pub named : Op → ℕ
-named Op.Idle = 0
-named (Op.Read i c) = namedIn c
-named (Op.Reading i) = 0
-named (Op.Asked i c) = namedIn c
-named (Op.Write i t) = namedAt t
-
-abbrev pub seenBy : State → ℕ → ℕ
-seenBy s q = laneOf s (named (laneOf s q .op)) .marks
-
-abbrev pub sizesOf : State → Sizes
-sizesOf s = record { p = s .p; m = s .m; first = s .first; step = s .step; top = s .top }
+abbrev pub actOf : Bool → Terms → ℕ → ℕ → Lane → Memory → Turn → Effect
+actOf fits z top q l mem t = effectOf l top mem (verdictOf fits z top q l mem t)
 
 -- All that a step determines: the state, the answer and the lent memories.
 pub record Outcome : Type 0 where
@@ -199,5 +179,13 @@ outcome r mem = record { stepped = r; memory = mem }
 abbrev pub outcomeAs : State → ℕ → Effect → Outcome
 outcomeAs s q e = outcome (steppedAs s q (e .acted)) (e .memory)
 
+-- A step of process q whose turn is t,
+abbrev pub stepBy : State → ℕ → Memory → Turn → Outcome
+stepBy s q mem t = outcomeAs s q (actOf (stateFits s) (s .terms) (s .top) q (laneOf s q) mem t)
+
+-- and the turn is what the step list says.
+abbrev pub turnIn : State → ℕ → Memory → Turn
+turnIn s q mem = turnOf (s .terms) (s .top) q (laneOf s q) (marksOf s) mem
+
 abbrev pub stepOf : State → ℕ → Memory → Outcome
-stepOf s q mem = outcomeAs s q (actOf (stateFits s) (sizesOf s) q (laneOf s q) (seenBy s q) mem)
+stepOf s q mem = stepBy s q mem (turnIn s q mem)

@@ -1,3 +1,6 @@
 pub mod Calls
 pub mod Inner
 pub mod Settled
+pub mod Worlds
+pub mod WorldLaws
+pub mod Lent

@@ -8,37 +8,36 @@ use native.Mathlib.Decide.{ℕ-discrete}
 use lib.Dec.{leb, ltb}
 use lib.ListN.{length, getD, set}
 use lib.Seq.{getD-set-same, getD-set-other, set-out, set-getD}
-use borrow.Author.Tests.{le-leb, ltb-true, ltb-false}
-use Rattle.numbers.specs.Numbers.{mostProcesses, mostCells, poolWords}
+use borrow.Author.Tests.{ltb-true, ltb-false}
+use Rattle.numbers.specs.Numbers.{poolWords}
 use Rattle.logic.specs.Below.{below}
 use Rattle.logic.specs.BelowLaws.{below-all}
 use Rattle.lanes.specs.declared.Lane.{Lane}
 use Rattle.lanes.specs.declared.State.{State}
 use Rattle.lanes.specs.Ranges.{rest, laneOf, laneFits, sizesFit, stateFits}
-use Rattle.lanes.specs.Laws.{sized, sizes-of, lane-of}
+use Rattle.lanes.specs.Laws.{other-top, sizes-of, lane-of}
 use Rattle.acts.specs.Calls.{settled}
 
 -- a lane put back where it was
 pub put-back : (s : State) (q : ℕ) → settled s q (laneOf s q) (s .top) ≡ s
-put-back s q = ap (λ (l : List Lane). record { p = s .p; m = s .m; first = s .first; step = s .step; top = s .top; lanes = l }) (set-getD (s .lanes) q rest)
+put-back s q = ap (λ (l : List Lane). record { terms = s .terms; top = s .top; lanes = l }) (set-getD (s .lanes) q rest)
 
 -- a new lane and a new top within their ranges keep the state in its own
-pub settled-fits : (s : State) (q : ℕ) (l : Lane) (t : ℕ) → stateFits s ≡ true → laneFits (s .p) (s .m) l ≡ true → leb t (poolWords (s .p) (s .m)) ≡ true
+pub settled-fits : (s : State) (q : ℕ) (l : Lane) (t : ℕ) → stateFits s ≡ true → laneFits (s .terms) l ≡ true
+    → leb t (poolWords (s .terms .p) (s .terms .m)) ≡ true
     → stateFits (settled s q l t) ≡ true
 settled-fits s q l t fine here top-low = rw (sizes, lanes)
   where
-    sizes : sizesFit (s .p) (s .m) t ≡ true
-    sizes =
-        let z = sized (s .p) (s .m) (s .top) (sizes-of s fine) in
-        rw (le-leb 1 (s .p) (z .p-low), le-leb (s .p) mostProcesses (z .p-high), le-leb 1 (s .m) (z .m-low), le-leb (s .m) mostCells (z .m-high)) top-low
+    sizes : sizesFit (s .terms) t ≡ true
+    sizes = other-top (s .terms) (s .top) t (sizes-of s fine) top-low
 
-    own : q < s .p → (b : Bool) → ltb q (length (s .lanes)) ≡ b → laneFits (s .p) (s .m) (getD (set (s .lanes) q l) q rest) ≡ true
-    own k true h = ap (laneFits (s .p) (s .m)) (getD-set-same (s .lanes) q l rest (ltb-true _ _ h)) ∙ here
-    own k false h = ap (λ (x : List Lane). laneFits (s .p) (s .m) (getD x q rest)) (set-out (s .lanes) q l (ltb-false _ _ h)) ∙ lane-of s fine q k
+    own : q < s .terms .p → (b : Bool) → ltb q (length (s .lanes)) ≡ b → laneFits (s .terms) (getD (set (s .lanes) q l) q rest) ≡ true
+    own k true h = ap (laneFits (s .terms)) (getD-set-same (s .lanes) q l rest (ltb-true _ _ h)) ∙ here
+    own k false h = ap (λ (x : List Lane). laneFits (s .terms) (getD x q rest)) (set-out (s .lanes) q l (ltb-false _ _ h)) ∙ lane-of s fine q k
 
-    at : (r : ℕ) → r < s .p → Dec (r ≡ q) → laneFits (s .p) (s .m) (laneOf (settled s q l t) r) ≡ true
+    at : (r : ℕ) → r < s .terms .p → Dec (r ≡ q) → laneFits (s .terms) (laneOf (settled s q l t) r) ≡ true
     at r k (yes e) = rw e (own (rw (← e) k) (ltb q (length (s .lanes))) refl)
-    at r k (no e) = ap (laneFits (s .p) (s .m)) (getD-set-other (s .lanes) q r l rest e) ∙ lane-of s fine r k
+    at r k (no e) = ap (laneFits (s .terms)) (getD-set-other (s .lanes) q r l rest e) ∙ lane-of s fine r k
 
-    lanes : below (s .p) (λ (r : ℕ). laneFits (s .p) (s .m) (laneOf (settled s q l t) r)) ≡ true
-    lanes = below-all (s .p) (λ (r : ℕ). laneFits (s .p) (s .m) (laneOf (settled s q l t) r)) (λ r k. at r k (ℕ-discrete r q))
+    lanes : below (s .terms .p) (λ (r : ℕ). laneFits (s .terms) (laneOf (settled s q l t) r)) ≡ true
+    lanes = below-all (s .terms .p) (λ (r : ℕ). laneFits (s .terms) (laneOf (settled s q l t) r)) (λ r k. at r k (ℕ-discrete r q))

@@ -12,10 +12,10 @@ use super::Ask;
 use lanes::Check;
 use lanes::Lane;
 use lanes::Op;
-use lanes::Stage;
 use numbers::Cell;
 use numbers::PROCESSES;
 use numbers::Process;
+use numbers::Terms;
 use refusals::Refusal;
 
 // A process's lane; 0 where it has none.
@@ -33,7 +33,7 @@ pub fn lanes_below(fits: bool, p: u32) -> usize
     if fits { p as usize } else { 0 }
 }
 
-fn cell_of(a: Ask) -> Cell
+pub fn cell_of(a: Ask) -> Cell
     ensures { λ r. ⌜ r ≡ cellOf a ⌝ }
 {
     match a {
@@ -43,12 +43,13 @@ fn cell_of(a: Ask) -> Cell
     }
 }
 
-fn op_of(a: Ask) -> Op
+// The first stage of what is asked.
+pub fn op_of(a: Ask) -> Op
     ensures { λ r. ⌜ r ≡ opOf a ⌝ }
 {
     match a {
         Ask::Read(i) => Op::Read(i, Check::Link),
-        Ask::Write(i, v) => Op::Write(i, Stage::Store(v)),
+        Ask::Write(i, v) => Op::Store(i, v),
         Ask::Asked(i) => Op::Asked(i, Check::Link),
     }
 }
@@ -77,27 +78,28 @@ pub fn changes(a: Answer) -> bool
     }
 }
 
-pub fn begun(fits: bool, p: u32, m: u32, top: u32, q: Process, l: Lane, a: Ask) -> Acted
-    ensures { λ b. ⌜ b ≡ begunOf fits p m top (q .0) l a ⌝ }
+// Beginning the operation o on cell i, in the lane l of process q.
+pub fn begun(fits: bool, z: Terms, top: u32, q: Process, l: Lane, i: Cell, o: Op) -> Acted
+    ensures { λ b. ⌜ b ≡ begunOf fits z top (q .0) l i o ⌝ }
 {
     if !fits {
         return refused(l, top, Refusal::OutOfRange);
     }
-    if p <= q.0 {
+    if z.p <= q.0 {
         return refused(l, top, Refusal::NoSuchProcess);
     }
-    let o = l.op;
-    if !lanes::idle(o) {
+    let under_way = l.op;
+    if !lanes::idle(under_way) {
         return refused(l, top, Refusal::UnderWay);
     }
-    if m <= cell_of(a).0 {
+    if !numbers::cell_fits(z, i) {
         return refused(l, top, Refusal::NoSuchCell);
     }
     let fresh = Lane {
         marks: l.marks,
         drawn: l.drawn,
         steps: 0,
-        op: op_of(a),
+        op: o,
     };
     Acted {
         lane: fresh,

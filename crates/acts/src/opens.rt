@@ -7,64 +7,58 @@ use super::Opening;
 use lanes::Lane;
 use lanes::Op;
 use lanes::State;
-use numbers::CELLS;
 use numbers::LANES;
-use numbers::PROCESSES;
+use numbers::Mark;
+use numbers::Terms;
 use refusals::Refusal;
 
+// Whether the lent memories have the lengths of these terms.
 pub fn lengths_fit(
-    p: u32,
-    m: u32,
+    z: Terms,
     readings: &[u32],
     links: &[u64],
     directory: &[u32],
-    pool: &[u32],
+    pool: &[Mark],
 ) -> bool
-    ensures { λ r. ⌜ r ≡ lengthsFit p m (memory (now (readings .entry)) (now (links .entry)) (now (directory .entry)) (now (pool .entry))) ⌝ }
+    ensures { λ r. ⌜ r ≡ lengthsFit z (memory (now (readings .entry)) (now (links .entry)) (now (directory .entry)) (now (pool .entry))) ⌝ }
 {
-    if readings.len() != m as usize {
+    if readings.len() != z.m as usize {
         return false;
     }
-    if links.len() != m as usize {
+    if links.len() != z.m as usize {
         return false;
     }
-    if directory.len() != numbers::directory_words(p) {
+    if directory.len() != numbers::directory_words(z.p) {
         return false;
     }
-    pool.len() == numbers::pool_words(p, m)
+    pool.len() == numbers::pool_words(z.p, z.m)
 }
 
 pub fn opening_of(
-    p: u32,
-    m: u32,
+    z: Terms,
     readings: &[u32],
     links: &[u64],
     directory: &[u32],
-    pool: &[u32],
+    pool: &[Mark],
 ) -> Opening
-    ensures { λ r. ⌜ r ≡ openingOf p m (memory (now (readings .entry)) (now (links .entry)) (now (directory .entry)) (now (pool .entry))) ⌝ }
+    ensures { λ r. ⌜ r ≡ openingOf z (memory (now (readings .entry)) (now (links .entry)) (now (directory .entry)) (now (pool .entry))) ⌝ }
 {
-    if p < 1 {
+    if !numbers::processes_fit(z.p) {
         return Opening::Refused(Refusal::ProcessCount);
     }
-    if PROCESSES < p {
-        return Opening::Refused(Refusal::ProcessCount);
-    }
-    if m < 1 {
+    if !numbers::cells_fit(z.m) {
         return Opening::Refused(Refusal::CellCount);
     }
-    if CELLS < m {
-        return Opening::Refused(Refusal::CellCount);
-    }
-    if lengths_fit(p, m, readings, links, directory, pool) {
+    if lengths_fit(z, readings, links, directory, pool) {
         Opening::Open
     } else {
         Opening::Refused(Refusal::LentLength)
     }
 }
 
-pub fn opened(p: u32, m: u32, first: u32, step: u32, is: Opening) -> Opened
-    ensures { λ r. ⌜ r ≡ record { state = fresh p m first step; opening = is } ⌝ }
+// The state that a grid of these terms starts from.
+pub fn opened(z: Terms, is: Opening) -> Opened
+    ensures { λ r. ⌜ r ≡ record { state = fresh z; opening = is } ⌝ }
 {
     let l = Lane {
         marks: 0,
@@ -74,10 +68,7 @@ pub fn opened(p: u32, m: u32, first: u32, step: u32, is: Opening) -> Opened
     };
     let lanes = [l; LANES];
     let s = State {
-        p: p,
-        m: m,
-        first: first,
-        step: step,
+        terms: z,
         top: 0,
         lanes: lanes,
     };

@@ -7,7 +7,7 @@ use mathlib.Core.List.{List}
 use native.Mathlib.Decide.{ℕ-discrete}
 use native.Mathlib.Omega.{arith}
 use native.Mathlib.Numerals.{add-one}
-use lib.Dec.{leb}
+use lib.Dec.{leb, eqb}
 use lib.ListN.{length, getD, set, length-set}
 use lib.Seq.{getD-set-same, getD-set-other}
 use borrow.Author.Tests.{lt-leb, le-leb, eq-eqb, ne-eqb}
@@ -16,16 +16,21 @@ use Rattle.logic.specs.Pick.{pick}
 use Rattle.lanes.specs.declared.Lane.{Lane}
 use Rattle.lanes.specs.declared.State.{State}
 use Rattle.lanes.specs.Ranges.{laneOf, stateFits}
-use Rattle.steps.specs.declared.Sizes.{Sizes}
+use Rattle.numbers.specs.declared.Terms.{Terms}
+use Rattle.steps.specs.declared.Turn.{Turn}
+use Rattle.steps.specs.Inner.{handed}
+use Rattle.steps.specs.Steps.{turnOf}
+use Rattle.lanes.specs.declared.Op.{Op}
 use Rattle.steps.specs.Memory.{Memory, memory}
 use Rattle.acts.specs.declared.Acted.{Acted}
 use Rattle.acts.specs.declared.Stepped.{Stepped}
 use Rattle.acts.specs.declared.Ask.{Ask}
 use Rattle.acts.specs.declared.Ask.the-variants as Ask
-use Rattle.acts.specs.Calls.{begunOf, effect, actOf, sizesOf, steppedAs, named, Effect, Outcome, outcome, beginOf, verdictOf, stepOf}
-use Rattle.acts.specs.Inner.{laneAt, changes}
+use Rattle.acts.specs.Calls.{cellOf, opOf, Outcome, outcome, Effect, effect, steppedAs, begunOf, beginOf, actOf, verdictOf, stepOf}
+use Rattle.acts.specs.Inner.{laneAt, changes, named}
 use Rattle.acts.proofs.StateLaws.{begun-is, begun-kept, step-is, moved-kept}
-use Rattle.batch.specs.Batch.{beginning, askOf, entered, codeOf, answerOf, Batch, batch, entering, onward, after, answerAt, Told, entries, batchOf, entryOf}
+use Rattle.batch.specs.Batch.{beginning, askOf, entered, codeOf, answerOf, Batch, batch, entering, onward, after, answerAt}
+use Rattle.batch.specs.Batch.{Told, entries, batchOf, entryOf}
 use Rattle.batch.specs.Kept.{begin-keeps, step-keeps}
 
 pub not-beginning : (kind : ℕ) → kind < 1 → false ≡ beginning kind
@@ -44,25 +49,43 @@ module _ (kind : ℕ) (i : Cell) (v : ℕ) where
   pub ask-asked : (kind ≡ 1 → ⊥) → (kind ≡ 2 → ⊥) → Ask.Asked i ≡ askOf kind i v
   ask-asked h k = simp (ne-eqb _ _ h, ne-eqb _ _ k)
 
-module _ (fits : Bool) (z : Sizes) (q : ℕ) (l : Lane) (seen kind : ℕ) (i : Cell) (v : ℕ) (mem : Memory) (b : Acted) (r : Bool) (e : r ≡ beginning kind) where
-  pub entry-begun : (a : Ask) → r ≡ true → a ≡ askOf kind i v → b ≡ begunOf fits (z .p) (z .m) (z .top) q l a → effect b mem ≡ entryOf fits z q l seen kind i v mem
-  entry-begun a h f g = simp (sym e ∙ h) (rw (g, f))
+module _ (fits : Bool) (z : Terms) (top q : ℕ) (l : Lane) (seen kind : ℕ) (i : Cell) (v : ℕ) (mem : Memory) (b : Acted)
+    (r : Bool) (e : r ≡ beginning kind) where
+  pub entry-begun : (a : Ask) (o : Op) → r ≡ true → a ≡ askOf kind i v → o ≡ opOf a → b ≡ begunOf fits z top q l i o
+      → effect b mem ≡ entryOf fits z top q l seen kind i v mem
+  entry-begun a o h f d g = rw (sym e ∙ h) (rw (g, d, f))
 
-  pub entry-step : (mem′ : Memory) → r ≡ false → effect b mem′ ≡ actOf fits z q l seen mem → effect b mem′ ≡ entryOf fits z q l seen kind i v mem
-  entry-step mem′ h g = simp (sym e ∙ h) g
+  pub entry-step : (mem′ : Memory) → r ≡ false → effect b mem′ ≡ actOf fits z top q l mem (turnOf z top q l (handed seen) mem)
+      → effect b mem′ ≡ entryOf fits z top q l seen kind i v mem
+  entry-step mem′ h g = rw (sym e ∙ h) g
+
+-- the cell asked about is the entry's
+asked-cell : (kind : ℕ) (i : Cell) (v : ℕ) → i ≡ cellOf (askOf kind i v)
+asked-cell kind i v = by (eqb kind 1) (eqb kind 2)
+  where
+    by : (a b : Bool) → i ≡ cellOf (pick a (Ask.Read i) (pick b (Ask.Write i v) (Ask.Asked i)))
+    by true b = refl
+    by false true = refl
+    by false false = refl
 
 -- an entry on the lane at k is the entry on the state
 module _ (s : State) (q k : ℕ) (at : k ≡ laneAt q) (j : ℕ) (from : j ≡ laneAt (named (laneOf s k .op))) (fits : Bool) (e : fits ≡ stateFits s)
     (mem mem′ : Memory) (kind : ℕ) (i : Cell) (v : ℕ) (b : Acted) where
+  abbrev turn : Turn
+  turn = turnOf (s .terms) (s .top) q (laneOf s k) (handed (laneOf s j .marks)) mem
+
   abbrev Entry : Bool → Type 0
   Entry w =
-      effect b mem′ ≡ pick w (effect (begunOf fits (s .p) (s .m) (s .top) q (laneOf s k) (askOf kind i v)) mem) (actOf fits (sizesOf s) q (laneOf s k) (laneOf s j .marks) mem)
+      effect b mem′
+      ≡ pick w
+      (effect (begunOf fits (s .terms) (s .top) q (laneOf s k) i (opOf (askOf kind i v))) mem)
+      (actOf fits (s .terms) (s .top) q (laneOf s k) mem turn)
 
   out-by : (w : Bool) → Entry w → outcome (steppedAs s k b) mem′ ≡ pick w (outcome (beginOf s q (askOf kind i v)) mem) (stepOf s q mem)
   out-by true f =
-      let g : b ≡ begunOf fits (s .p) (s .m) (s .top) q (laneOf s k) (askOf kind i v) = ap (λ (x : Effect). x .acted) f in
+      let g = ap (λ (x : Effect). x .acted) f in
       let m : mem′ ≡ mem = ap (λ (x : Effect). x .memory) f in
-      rw (begun-is s q k at (laneOf s k) refl fits (askOf kind i v) b e g, m)
+      rw (begun-is s q k at (laneOf s k) refl fits (askOf kind i v) i (opOf (askOf kind i v)) b e (asked-cell kind i v) refl g, m)
   out-by false f = step-is s q k at (laneOf s k) refl j (laneOf s j) from refl fits mem mem′ b e f
 
   pub entry-is : Entry (beginning kind) → outcome (steppedAs s k b) mem′ ≡ entered s mem kind q i v
@@ -72,10 +95,10 @@ module _ (s : State) (q k : ℕ) (at : k ≡ laneAt q) (j : ℕ) (from : j ≡ l
   kept-by : (w : Bool) → Entry w → changes (b .answer) ≡ false → s ≡ steppedAs s k b .state
   kept-by true f h =
       ap (λ (x : Stepped). x .state)
-      (begun-kept s q k at (laneOf s k) refl fits (askOf kind i v) b (ap (λ (x : Effect). x .acted) f) h)
+      (begun-kept s q k at (laneOf s k) refl fits i (opOf (askOf kind i v)) b (ap (λ (x : Effect). x .acted) f) h)
   kept-by false f h =
       ap (λ (x : Stepped). x .state)
-      (moved-kept s q k at (laneOf s k) refl j (laneOf s j) from refl (verdictOf fits (sizesOf s) q (laneOf s k) (laneOf s j .marks) mem) mem mem′ b f h)
+      (moved-kept s q k at (laneOf s k) refl (verdictOf fits (s .terms) (s .top) q (laneOf s k) mem turn) mem mem′ b f h)
 
   entry-kept : Entry (beginning kind) → (r : Bool) → r ≡ changes (b .answer) → r ≡ false → s ≡ steppedAs s k b .state
   entry-kept f r g h = kept-by (beginning kind) f (sym g ∙ h)
@@ -118,7 +141,8 @@ module _ (kinds processes cells values : List ℕ) (s : State) (mem : Memory) (a
   pub back-none : Back 0 answers
   back-none k h = absurd (let y : ⊥ = omega arith in y)
 
-  pub back-more : (i code : ℕ) (words : List ℕ) → i < length words → Back i words → answerOf code ≡ answerAt kinds processes cells values (batch s mem answers) i
+  pub back-more : (i code : ℕ) (words : List ℕ) → i < length words → Back i words
+      → answerOf code ≡ answerAt kinds processes cells values (batch s mem answers) i
       → Back (i + 1) (set words i code)
   back-more i code words low h e k here = by (ℕ-discrete k i)
     where
@@ -148,6 +172,7 @@ pub record Going (kinds₀ processes₀ cells₀ values₀ answers₀ readings�
   pub same-links : length links ≡ length links₀
   pub same-directory : length directory ≡ length directory₀
   pub same-pool : length pool ≡ length pool₀
+  pub terms : t .terms ≡ s .terms
   pub fine : fits ≡ stateFits t
   pub done : Done kinds₀ processes₀ cells₀ values₀ s (memory readings₀ links₀ directory₀ pool₀) answers₀ i
       (batch t (memory readings links directory pool) answers)
@@ -165,6 +190,7 @@ module _ (kinds processes cells values answers₀ readings₀ links₀ directory
     same-links = refl;
     same-directory = refl;
     same-pool = refl;
+    terms = refl;
     fine = f;
     done = done-none kinds processes cells values s (memory readings₀ links₀ directory₀ pool₀) answers₀;
     back = back-none kinds processes cells values s (memory readings₀ links₀ directory₀ pool₀) answers₀;
@@ -172,13 +198,22 @@ module _ (kinds processes cells values answers₀ readings₀ links₀ directory
 
   module _ (answers readings links directory pool : List ℕ) (t : State) (i : ℕ)
       (G : Going kinds processes cells values answers₀ readings₀ links₀ directory₀ pool₀ s fits n answers readings links directory pool t i) where
-    pub going-more : (answers′ readings′ links′ directory′ pool′ : List ℕ) (t′ : State) (k j code : ℕ) (b : Acted) → t′ ≡ steppedAs t k b .state → i < n → k ≡ laneAt (getD processes i 0)
-        → j ≡ laneAt (named (laneOf t k .op))
-        → effect b (memory readings′ links′ directory′ pool′)
-        ≡ entryOf fits (sizesOf t) (getD processes i 0) (laneOf t k) (laneOf t j .marks) (getD kinds i 0) (record { 0 = getD cells i 0 }) (getD values i 0)
-        (memory readings links directory pool)
-        → (code ≡ codeOf (b .answer)) × (answerOf code ≡ b .answer) → answers′ ≡ set answers i code → length readings′ ≡ length readings → length links′ ≡ length links → length directory′ ≡ length directory
-        → length pool′ ≡ length pool
+    -- what entry i does, by given terms
+    abbrev Does : Terms → (k j : ℕ) (b : Acted) (readings′ links′ directory′ pool′ : List ℕ) → Type 0
+    Does z k j b readings′ links′ directory′ pool′ =
+        effect b (memory readings′ links′ directory′ pool′)
+        ≡ entryOf fits z (t .top) (getD processes i 0) (laneOf t k) (laneOf t j .marks) (getD kinds i 0)
+        (record { 0 = getD cells i 0 }) (getD values i 0) (memory readings links directory pool)
+
+    own-terms : (k j : ℕ) (b : Acted) (readings′ links′ directory′ pool′ : List ℕ) → Does (s .terms) k j b readings′ links′ directory′ pool′
+        → Does (t .terms) k j b readings′ links′ directory′ pool′
+    own-terms k j b readings′ links′ directory′ pool′ f = rw (G .terms) f
+
+    pub going-more : (answers′ readings′ links′ directory′ pool′ : List ℕ) (t′ : State) (k j code : ℕ) (b : Acted)
+        → t′ ≡ steppedAs t k b .state → i < n → k ≡ laneAt (getD processes i 0) → j ≡ laneAt (named (laneOf t k .op))
+        → Does (s .terms) k j b readings′ links′ directory′ pool′
+        → (code ≡ codeOf (b .answer)) × (answerOf code ≡ b .answer) → answers′ ≡ set answers i code → length readings′ ≡ length readings
+        → length links′ ≡ length links → length directory′ ≡ length directory → length pool′ ≡ length pool
         → Going kinds processes cells values answers₀ readings₀ links₀ directory₀ pool₀ s fits n answers′ readings′ links′ directory′ pool′ t′ (i + 1)
     going-more answers′ readings′ links′ directory′ pool′ t′ k j code b et low at from f g ea er el ed ep = rw (ea, et) (record {
       at = omega arith;
@@ -189,7 +224,12 @@ module _ (kinds processes cells values answers₀ readings₀ links₀ directory
       same-links = el ∙ G .same-links;
       same-directory = ed ∙ G .same-directory;
       same-pool = ep ∙ G .same-pool;
-      fine = G .fine ∙ sym (ap (λ (x : Outcome). stateFits (x .stepped .state)) out ∙ entered-keeps t (memory readings links directory pool) (getD kinds i 0) (getD processes i 0) (record { 0 = getD cells i 0 }) (getD values i 0));
+      terms = G .terms;
+      fine =
+          G .fine
+          ∙ sym
+          (ap (λ (x : Outcome). stateFits (x .stepped .state)) out
+          ∙ entered-keeps t (memory readings links directory pool) (getD kinds i 0) (getD processes i 0) (record { 0 = getD cells i 0 }) (getD values i 0));
       done = done-more kinds processes cells values s (memory readings₀ links₀ directory₀ pool₀) answers₀ i t (memory readings links directory pool)
           (memory readings′ links′ directory′ pool′) answers k (getD processes i 0) (getD kinds i 0) (getD values i 0) code (record { 0 = getD cells i 0 }) b
           (G .done) refl refl refl refl out (g .0);
@@ -200,7 +240,7 @@ module _ (kinds processes cells values answers₀ readings₀ links₀ directory
         out : outcome (steppedAs t k b) (memory readings′ links′ directory′ pool′)
             ≡ entered t (memory readings links directory pool) (getD kinds i 0) (getD processes i 0) (record { 0 = getD cells i 0 }) (getD values i 0)
         out = entry-is t (getD processes i 0) k at j from fits (G .fine) (memory readings links directory pool) (memory readings′ links′ directory′ pool′)
-            (getD kinds i 0) (record { 0 = getD cells i 0 }) (getD values i 0) b f
+            (getD kinds i 0) (record { 0 = getD cells i 0 }) (getD values i 0) b (own-terms k j b readings′ links′ directory′ pool′ f)
 
         given : b .answer ≡ answerAt kinds processes cells values (batch s (memory readings₀ links₀ directory₀ pool₀) answers₀) i
         given = ap (λ (x : Outcome). x .stepped .answer) out ∙ ap (λ (x : Batch). entering kinds processes cells values x i .stepped .answer) (G .done)
@@ -208,16 +248,14 @@ module _ (kinds processes cells values answers₀ readings₀ links₀ directory
     -- a refused entry: the state stays
     pub going-kept : (answers′ readings′ links′ directory′ pool′ : List ℕ) (k j code : ℕ) (b : Acted) (r : Bool) → r ≡ changes (b .answer) → r ≡ false → i < n
         → k ≡ laneAt (getD processes i 0) → j ≡ laneAt (named (laneOf t k .op))
-        → effect b (memory readings′ links′ directory′ pool′)
-        ≡ entryOf fits (sizesOf t) (getD processes i 0) (laneOf t k) (laneOf t j .marks) (getD kinds i 0) (record { 0 = getD cells i 0 }) (getD values i 0)
-        (memory readings links directory pool)
-        → (code ≡ codeOf (b .answer)) × (answerOf code ≡ b .answer) → answers′ ≡ set answers i code → length readings′ ≡ length readings → length links′ ≡ length links → length directory′ ≡ length directory
-        → length pool′ ≡ length pool
+        → Does (s .terms) k j b readings′ links′ directory′ pool′
+        → (code ≡ codeOf (b .answer)) × (answerOf code ≡ b .answer) → answers′ ≡ set answers i code → length readings′ ≡ length readings
+        → length links′ ≡ length links → length directory′ ≡ length directory → length pool′ ≡ length pool
         → Going kinds processes cells values answers₀ readings₀ links₀ directory₀ pool₀ s fits n answers′ readings′ links′ directory′ pool′ t (i + 1)
     going-kept answers′ readings′ links′ directory′ pool′ k j code b r is stays low at from f =
         going-more answers′ readings′ links′ directory′ pool′ t k j code b
         (entry-kept t (getD processes i 0) k at j from fits (G .fine) (memory readings links directory pool) (memory readings′ links′ directory′ pool′)
-        (getD kinds i 0) (record { 0 = getD cells i 0 }) (getD values i 0) b f r is stays)
+        (getD kinds i 0) (record { 0 = getD cells i 0 }) (getD values i 0) b (own-terms k j b readings′ links′ directory′ pool′ f) r is stays)
         low at from f
 
     pub going-end : n ≤ i

@@ -11,13 +11,15 @@ use Rattle.refusals.specs.Numbers.{numberOf, refusalOf}
 use Rattle.logic.specs.Pick.{pick}
 use Rattle.lanes.specs.declared.Lane.{Lane}
 use Rattle.lanes.specs.declared.State.{State}
-use Rattle.steps.specs.declared.Sizes.{Sizes}
+use Rattle.numbers.specs.declared.Terms.{Terms}
+use Rattle.steps.specs.Inner.{handed}
+use Rattle.steps.specs.Steps.{turnOf}
 use Rattle.steps.specs.Memory.{Memory}
 use Rattle.acts.specs.declared.Ask.{Ask}
 use Rattle.acts.specs.declared.Ask.the-variants as Ask
 use Rattle.acts.specs.declared.Answer.{Answer}
 use Rattle.acts.specs.declared.Answer.the-variants as Answer
-use Rattle.acts.specs.Calls.{beginOf, begunOf, Effect, effect, actOf, Outcome, outcome, stepOf}
+use Rattle.acts.specs.Calls.{opOf, beginOf, begunOf, Effect, effect, actOf, Outcome, outcome, stepOf}
 
 -- An entry of kind 1 begins a read, 2 a write, 3 an asked; one of any other kind is a step.
 abbrev pub beginning : ℕ → Bool
@@ -103,6 +105,8 @@ batchOf s mem answers kinds processes cells values =
     after kinds processes cells values (batch s mem answers) (entries kinds processes cells values answers)
 
 -- An entry on the lane of its process, where the state's numbers are known to fit or not.
-abbrev pub entryOf : Bool → Sizes → ℕ → Lane → ℕ → ℕ → Cell → ℕ → Memory → Effect
-entryOf fits z q l seen kind i v mem =
-    pick (beginning kind) (effect (begunOf fits (z .p) (z .m) (z .top) q l (askOf kind i v)) mem) (actOf fits z q l seen mem)
+abbrev pub entryOf : Bool → Terms → ℕ → ℕ → Lane → ℕ → ℕ → Cell → ℕ → Memory → Effect
+entryOf fits z top q l seen kind i v mem =
+    pick (beginning kind)
+    (effect (begunOf fits z top q l i (opOf (askOf kind i v))) mem)
+    (actOf fits z top q l mem (turnOf z top q l (handed seen) mem))

@@ -1,3 +1,4 @@
 pub mod Batch
 pub mod Words
 pub mod Kept
+pub mod Fold

@@ -6,9 +6,8 @@ use mathlib.Core.Bool.{Bool, true, false}
 use native.Mathlib.Omega.{arith}
 use lib.Dec.{eqb}
 use Rattle.refusals.specs.Numbers.{numberOf}
-use Rattle.refusals.specs.Laws.{refusal-back}
+use Rattle.refusals.specs.Laws.{refusal-back, number-below}
 use Rattle.refusals.specs.declared.Refusal.{Refusal}
-use Rattle.refusals.specs.declared.Refusal.the-variants as Refusal
 use Rattle.acts.specs.declared.Answer.{Answer}
 use Rattle.acts.specs.declared.Answer.the-variants as Answer
 use Rattle.batch.specs.Batch.{codeWith, bit, codeOf, answerAs, answerOf}
@@ -23,24 +22,7 @@ stepsOf (Answer.Asked b n) = n
 stepsOf (Answer.Refused r) = 0
 
 pub number-few : (r : Refusal) → numberOf r < 256
-number-few Refusal.ProcessCount = omega arith
-number-few Refusal.CellCount = omega arith
-number-few Refusal.LentLength = omega arith
-number-few Refusal.NoSuchProcess = omega arith
-number-few Refusal.NoSuchCell = omega arith
-number-few Refusal.UnderWay = omega arith
-number-few Refusal.NothingUnderWay = omega arith
-number-few Refusal.OtherLengths = omega arith
-number-few Refusal.OutOfRange = omega arith
-number-few Refusal.AtWork = omega arith
-number-few Refusal.NotASchedule = omega arith
-number-few Refusal.Version = omega arith
-number-few Refusal.TooManyCells = omega arith
-number-few Refusal.RaggedRecords = omega arith
-number-few Refusal.RecordKind = omega arith
-number-few Refusal.FileTooLong = omega arith
-number-few Refusal.NoRoom = omega arith
-number-few Refusal.NothingWritten = omega arith
+number-few r = omega (arith, number-below r)
 
 -- the parts of a word are what it was made of
 parts-back : (kind count flag value : ℕ) → kind < 256 → count < 256 → flag < 256

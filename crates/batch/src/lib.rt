@@ -1,7 +1,6 @@
 // Many begins and steps in one call: the state stays in one local, and is looked at once.
 ghost use mathlib.Core.Path.{_≡_};
 ghost use Prim.Native.Nat.{_<_};
-ghost use lib.ListN.{set};
 ghost use Rattle.lanes.specs.Ranges.{stateFits};
 ghost use Rattle.steps.specs.Memory.{memory};
 ghost use Rattle.acts.specs.Calls.{effect};
@@ -14,17 +13,19 @@ use acts::begins;
 use lanes::Lane;
 use lanes::State;
 use numbers::Cell;
+use numbers::Mark;
 use numbers::Process;
-use steps::Sizes;
+use numbers::Terms;
 
 fn state_fits(s: State) -> bool
     ensures { λ r. ⌜ r ≡ stateFits s ⌝ }
 {
-    let mut fits = lanes::sizes_fit(s.p, s.m, s.top);
-    let end = begins::lanes_below(fits, s.p);
+    let z = s.terms;
+    let mut fits = lanes::sizes_fit(z, s.top);
+    let end = begins::lanes_below(fits, z.p);
     let mut i: usize = 0;
     while i < end {
-        fits = logic::both(fits, lanes::lane_fits(s.p, s.m, s.lanes[i]));
+        fits = logic::both(fits, lanes::lane_fits(z, s.lanes[i]));
         i = i + 1;
     }
     fits
@@ -102,7 +103,8 @@ fn ask_of(kind: u8, i: Cell, v: u32) -> Ask
 // One entry: a begin of the kinds 1 to 3, else a step.
 fn entry(
     fits: bool,
-    z: Sizes,
+    z: Terms,
+    top: u32,
     q: Process,
     l: Lane,
     seen: u32,
@@ -112,23 +114,16 @@ fn entry(
     readings: &mut [u32],
     links: &mut [u64],
     directory: &mut [u32],
-    pool: &mut [u32],
+    pool: &mut [Mark],
 ) -> Acted
-    requires { ⌜ Judged fits z (q .0) l seen ⌝ }
-    ensures { λ r. ⌜ effect r (memory (now (readings .exit)) (now (links .exit)) (now (directory .exit)) (now (pool .exit))) ≡ entryOf fits z (q .0) l seen kind i v (memory (now (readings .entry)) (now (links .entry)) (now (directory .entry)) (now (pool .entry))) ⌝ }
+    requires { ⌜ Judged fits z top (q .0) l seen ⌝ }
+    ensures { λ r. ⌜ effect r (memory (now (readings .exit)) (now (links .exit)) (now (directory .exit)) (now (pool .exit))) ≡ entryOf fits z top (q .0) l seen kind i v (memory (now (readings .entry)) (now (links .entry)) (now (directory .entry)) (now (pool .entry))) ⌝ }
 {
     if beginning(kind) {
-        return begins::begun(fits, z.p, z.m, z.top, q, l, ask_of(kind, i, v));
+        let o = begins::op_of(ask_of(kind, i, v));
+        return begins::begun(fits, z, top, q, l, i, o);
     }
-    judged::act(fits, z, q, l, seen, readings, links, directory, pool)
-}
-
-fn put(a: &mut [u64], i: usize, w: u64)
-    ensures { λ _. ⌜ now (a .exit) ≡ set (now (a .entry)) i w ⌝ }
-{
-    if i < a.len() {
-        a[i] = w;
-    }
+    judged::act(fits, z, top, q, l, seen, readings, links, directory, pool)
 }
 
 // As many entries as the shortest list has, each on the state and the memories that the one before it left. Every call keeps a
@@ -143,7 +138,7 @@ pub fn run(
     readings: &mut [u32],
     links: &mut [u64],
     directory: &mut [u32],
-    pool: &mut [u32],
+    pool: &mut [Mark],
 ) -> State
     ensures { λ r. ⌜ batch r (memory (now (readings .exit)) (now (links .exit)) (now (directory .exit)) (now (pool .exit))) (now (answers .exit)) ≡ batchOf s (memory (now (readings .entry)) (now (links .entry)) (now (directory .entry)) (now (pool .entry))) (now (answers .entry)) (now (kinds .entry)) (now (processes .entry)) (now (cells .entry)) (now (values .entry)) ⌝ }
     ensures { λ _. ⌜ Told (now (kinds .entry)) (now (processes .entry)) (now (cells .entry)) (now (values .entry)) (batch s (memory (now (readings .entry)) (now (links .entry)) (now (directory .entry)) (now (pool .entry))) (now (answers .entry))) (entries (now (kinds .entry)) (now (processes .entry)) (now (cells .entry)) (now (values .entry)) (now (answers .entry))) (now (answers .exit)) ⌝ }
@@ -159,35 +154,33 @@ pub fn run(
     );
     let mut i: usize = 0;
     while i < n {
-        let q = Process(processes[i]);
+        let who = processes[i];
+        let q = Process(who);
         let k = begins::lane_of(q);
         let l = t.lanes[k];
         let o = l.op;
         let j = begins::lane_of(judged::named(o));
         let other = t.lanes[j];
-        let z = Sizes {
-            p: t.p,
-            m: t.m,
-            first: t.first,
-            step: t.step,
-            top: t.top,
-        };
+        let kind = kinds[i];
+        let cell = cells[i];
+        let value = values[i];
         let b = entry(
             fits,
-            z,
+            s.terms,
+            t.top,
             q,
             l,
             other.marks,
-            kinds[i],
-            Cell(cells[i]),
-            values[i],
+            kind,
+            Cell(cell),
+            value,
             readings,
             links,
             directory,
             pool,
         );
         let answer = b.answer;
-        put(answers, i, code_of(answer));
+        steps::store::put_wide(answers, i, code_of(answer));
         i = i + 1;
         if begins::changes(answer) {
             let lane = b.lane;

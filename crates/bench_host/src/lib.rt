@@ -8,7 +8,9 @@ use acts::Answer;
 use acts::Ask;
 use lanes::State;
 use numbers::Cell;
+use numbers::Mark;
 use numbers::Process;
+use numbers::Terms;
 
 // No operation takes more steps.
 const MOST: u32 = 11;
@@ -78,12 +80,22 @@ fn begun(
     readings: &mut [u32],
     links: &mut [u64],
     directory: &mut [u32],
-    pool: &mut [u32],
+    pool: &mut [Mark],
 ) -> State {
     let b = grid::begin(s, Process(q), Ask::Write(Cell(0), q));
     let c = grid::step(b.state, Process(q), readings, links, directory, pool);
     let d = grid::step(c.state, Process(q), readings, links, directory, pool);
     d.state
+}
+
+// The terms of a grid whose filling rule starts there.
+fn terms(p: u32, m: u32, first: u32) -> Terms {
+    Terms {
+        p: p,
+        m: m,
+        first: first,
+        step: 3,
+    }
 }
 
 // An open grid in which each process below `busy` is in the middle of a write.
@@ -94,9 +106,9 @@ pub fn opened(
     readings: &mut [u32],
     links: &mut [u64],
     directory: &mut [u32],
-    pool: &mut [u32],
+    pool: &mut [Mark],
 ) -> State {
-    let o = grid::open(p, m, 7, 3, readings, links, directory, pool);
+    let o = grid::open(terms(p, m, 7), readings, links, directory, pool);
     let mut s = o.state;
     let mut j: u32 = 0;
     while j < busy {
@@ -113,7 +125,7 @@ pub extern "C" fn grid_operations(
     readings: &mut [u32],
     links: &mut [u64],
     directory: &mut [u32],
-    pool: &mut [u32],
+    pool: &mut [Mark],
     outcomes: &mut [u64],
     p: u32,
     m: u32,

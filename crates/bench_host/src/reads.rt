@@ -3,6 +3,7 @@ use acts::Ask;
 use acts::Stepped;
 use lanes::State;
 use numbers::Cell;
+use numbers::Mark;
 use numbers::Process;
 
 // Process q writes 9 to cell 0, which takes seven steps where the old bytes are all one bits.
@@ -12,7 +13,7 @@ fn written(
     readings: &mut [u32],
     links: &mut [u64],
     directory: &mut [u32],
-    pool: &mut [u32],
+    pool: &mut [Mark],
 ) -> State {
     let b = grid::begin(s, Process(q), Ask::Write(Cell(0), 9));
     let mut t = b.state;
@@ -32,7 +33,7 @@ fn read_one(
     readings: &mut [u32],
     links: &mut [u64],
     directory: &mut [u32],
-    pool: &mut [u32],
+    pool: &mut [Mark],
 ) -> Stepped {
     let b = grid::begin(s, Process(q), Ask::Read(Cell(0)));
     grid::step(b.state, Process(q), readings, links, directory, pool)
@@ -45,7 +46,7 @@ fn read_five(
     readings: &mut [u32],
     links: &mut [u64],
     directory: &mut [u32],
-    pool: &mut [u32],
+    pool: &mut [Mark],
 ) -> Stepped {
     let b = grid::begin(s, Process(q), Ask::Read(Cell(0)));
     let c = grid::step(b.state, Process(q), readings, links, directory, pool);
@@ -62,7 +63,7 @@ fn read(
     readings: &mut [u32],
     links: &mut [u64],
     directory: &mut [u32],
-    pool: &mut [u32],
+    pool: &mut [Mark],
 ) -> Stepped {
     if five {
         read_five(s, q, readings, links, directory, pool)
@@ -79,7 +80,7 @@ fn ready(
     readings: &mut [u32],
     links: &mut [u64],
     directory: &mut [u32],
-    pool: &mut [u32],
+    pool: &mut [Mark],
 ) -> State {
     let s = super::opened(p, m, 0, readings, links, directory, pool);
     if five {
@@ -95,7 +96,7 @@ pub extern "C" fn grid_reads(
     readings: &mut [u32],
     links: &mut [u64],
     directory: &mut [u32],
-    pool: &mut [u32],
+    pool: &mut [Mark],
     outcomes: &mut [u64],
     p: u32,
     m: u32,

@@ -5,16 +5,18 @@ use mathlib.Core.Path.{_≡_, refl, sym, ap, _∙_}
 use mathlib.Core.Bool.{Bool, true, false}
 use mathlib.Core.List.{List, [], _∷_}
 use native.Mathlib.Omega.{arith}
+use Rattle.numbers.specs.declared.Cell.{Cell}
+use Rattle.numbers.specs.declared.Terms.{Terms}
 use Rattle.refusals.specs.Orders.{Rule, orders}
 use Rattle.logic.specs.Pick.{pick}
 use Rattle.refusals.specs.declared.Refusal.{Refusal}
 use Rattle.refusals.specs.declared.Refusal.the-variants as Refusal
+use Rattle.lanes.specs.declared.Op.{Op}
 use Rattle.lanes.specs.declared.Lane.{Lane}
 use Rattle.lanes.specs.declared.State.{State}
 use Rattle.lanes.specs.Ranges.{laneOf, stateFits}
 use Rattle.steps.specs.declared.Next.{Next}
 use Rattle.steps.specs.declared.Next.the-variants as Next
-use Rattle.acts.specs.declared.Ask.{Ask}
 use Rattle.acts.specs.declared.Acted.{Acted}
 use Rattle.acts.specs.declared.Answer.{Answer}
 use Rattle.acts.specs.declared.Answer.the-variants as Answer
@@ -23,11 +25,13 @@ use Rattle.acts.specs.declared.Opening.the-variants as Opening
 use Rattle.acts.specs.declared.Verdict.{Verdict}
 use Rattle.acts.specs.declared.Verdict.the-variants as Verdict
 use Rattle.acts.specs.Settled.{put-back}
-use Rattle.acts.specs.Calls.{openingOf, openedAs, refusedAs, beginRefusals, opOf, begunOf, steppedAs, answerOf, verdictOf, effectOf, outcome, outcomeAs, sizesOf, seenBy, Outcome}
-use Rattle.claims.specs.Claims.{OneOpening, OneBeginning, OneStep, RefusedOpen, ClosedBegin, ClosedStep, RefusedBegin, RefusedStep, closed}
+use Rattle.acts.specs.Calls.{openingOf, openedAs, refusedAs, withOp, beginRefusals, cellOf, opOf, begunOf, steppedAs}
+use Rattle.acts.specs.Calls.{answerOf, verdictOf, effectOf, outcome, outcomeAs, turnIn, Outcome}
+use Rattle.claims.specs.Claims.{OneOpening, OneBeginning, OneStep, RefusedOpen, ClosedBegin, ClosedStep, RefusedBegin, RefusedStep}
+use Rattle.claims.specs.Claims.{closed}
 
 pub one-opening : OneOpening
-one-opening p m first step mem r r′ e e′ = e ∙ sym e′
+one-opening z mem r r′ e e′ = e ∙ sym e′
 
 pub one-beginning : OneBeginning
 one-beginning s q a r r′ e e′ = e ∙ sym e′
@@ -37,9 +41,9 @@ one-step s q mem r r′ after after′ e e′ =
     (ap (λ (x : Outcome). x .stepped) (e ∙ sym e′), ap (λ (x : Outcome). x .memory) (e ∙ sym e′))
 
 pub refused-open-is-closed : RefusedOpen
-refused-open-is-closed p m first step mem r = by (openingOf p m mem)
+refused-open-is-closed z mem r = by (openingOf z mem)
   where
-    by : (o : Opening) → openedAs p m first step o .opening ≡ Opening.Refused r → openedAs p m first step o .state ≡ closed
+    by : (o : Opening) → openedAs z o .opening ≡ Opening.Refused r → openedAs z o .state ≡ closed
     by Opening.Open h = absurd (let y : _≡_ {A = ℕ} 0 1 = cc in omega arith)
     by (Opening.Refused x) h = refl
 
@@ -62,17 +66,16 @@ orders-act l top (x ∷ xs) b k = by (x .when) (orders-act l top xs b k)
     by true later = refuses (x .gives)
     by false later = later
 
-begun-acts : (fits : Bool) (p m top q : ℕ) (l : Lane) (a : Ask) → Acts l top (begunOf fits p m top q l a)
+begun-acts : (fits : Bool) (z : Terms) (top q : ℕ) (l : Lane) (i : Cell) (o : Op) → Acts l top (begunOf fits z top q l i o)
 unfolding begunOf
-begun-acts fits p m top q l a =
-    orders-act l top (beginRefusals fits p m q l a)
-    (record { lane = record { marks = l .marks; drawn = l .drawn; steps = 0; op = opOf a }; top = top; answer = Answer.Begun })
+begun-acts fits z top q l i o =
+    orders-act l top (beginRefusals fits z q l i) (record { lane = withOp l 0 o; top = top; answer = Answer.Begun })
     (λ r h. let y : _≡_ {A = ℕ} 0 1 = cc in omega arith)
 
 pub a-refused-begin-changes-nothing : RefusedBegin
 a-refused-begin-changes-nothing s q a r h =
-    harmless-by s q (begunOf (stateFits s) (s .p) (s .m) (s .top) q (laneOf s q) a)
-    (begun-acts (stateFits s) (s .p) (s .m) (s .top) q (laneOf s q) a) r h
+    harmless-by s q (begunOf (stateFits s) (s .terms) (s .top) q (laneOf s q) (cellOf a) (opOf a))
+    (begun-acts (stateFits s) (s .terms) (s .top) q (laneOf s q) (cellOf a) (opOf a)) r h
 
 not-refused : (n : ℕ) (nx : Next) (r : Refusal) → answerOf n nx ≡ Answer.Refused r → ⊥
 not-refused n (Next.Going o) r h = let y : _≡_ {A = ℕ} 0 1 = cc in omega arith
@@ -81,7 +84,7 @@ not-refused n Next.Written r h = let y : _≡_ {A = ℕ} 0 1 = cc in omega arith
 not-refused n (Next.Asked b) r h = let y : _≡_ {A = ℕ} 0 1 = cc in omega arith
 
 pub a-refused-step-changes-nothing : RefusedStep
-a-refused-step-changes-nothing s q mem r = by (verdictOf (stateFits s) (sizesOf s) q (laneOf s q) (seenBy s q) mem)
+a-refused-step-changes-nothing s q mem r = by (verdictOf (stateFits s) (s .terms) (s .top) q (laneOf s q) mem (turnIn s q mem))
   where
     by : (v : Verdict) → outcomeAs s q (effectOf (laneOf s q) (s .top) mem v) .stepped .answer ≡ Answer.Refused r
         → (outcomeAs s q (effectOf (laneOf s q) (s .top) mem v) .stepped .state ≡ s) × (outcomeAs s q (effectOf (laneOf s q) (s .top) mem v) .memory ≡ mem)

@@ -1,8 +1,8 @@
 -- Proof: the test on what a step would change is the test on the whole state after it.
 -- Assumes nothing.
 use Prim.Native.Nat.{ℕ, _<_}
-use mathlib.Core.Path.{_≡_, refl, sym, ap, _∙_}
-use mathlib.Core.Bool.{Bool, true, false, _&&_}
+use mathlib.Core.Path.{_≡_, sym, ap, _∙_}
+use mathlib.Core.Bool.{true, _&&_}
 use lib.Dec.{leb}
 use lib.ListN.{length}
 use lib.Seq.{getD-set-same}
@@ -17,25 +17,25 @@ use Rattle.acts.specs.Calls.{settled}
 use Rattle.acts.specs.Settled.{settled-fits}
 use Rattle.claims.specs.Claims.{NewNumbers}
 
-module _ (s : State) (q : ℕ) (fine : stateFits s ≡ true) (low : q < s .p) (here : q < length (s .lanes)) (l : Lane) (t : ℕ) where
+module _ (s : State) (q : ℕ) (fine : stateFits s ≡ true) (low : q < s .terms .p) (here : q < length (s .lanes)) (l : Lane) (t : ℕ) where
   abbrev s′ : State
   s′ = settled s q l t
 
   lane-new : laneOf s′ q ≡ l
   lane-new = getD-set-same (s .lanes) q l rest here
 
-  to : (leb t (poolWords (s .p) (s .m)) && laneFits (s .p) (s .m) l) ≡ true → stateFits s′ ≡ true
+  to : (leb t (poolWords (s .terms .p) (s .terms .m)) && laneFits (s .terms) l) ≡ true → stateFits s′ ≡ true
   to h =
       settled-fits s q l t fine
-      (and-right (leb t (poolWords (s .p) (s .m))) (laneFits (s .p) (s .m) l) h)
-      (and-left (leb t (poolWords (s .p) (s .m))) (laneFits (s .p) (s .m) l) h)
+      (and-right (leb t (poolWords (s .terms .p) (s .terms .m))) (laneFits (s .terms) l) h)
+      (and-left (leb t (poolWords (s .terms .p) (s .terms .m))) (laneFits (s .terms) l) h)
 
-  fro : stateFits s′ ≡ true → (leb t (poolWords (s .p) (s .m)) && laneFits (s .p) (s .m) l) ≡ true
+  fro : stateFits s′ ≡ true → (leb t (poolWords (s .terms .p) (s .terms .m)) && laneFits (s .terms) l) ≡ true
   fro h =
-      rw (le-leb t (poolWords (s .p) (s .m)) (sized (s .p) (s .m) t (sizes-of s′ h) .top-high))
-      (sym (ap (laneFits (s .p) (s .m)) lane-new) ∙ lane-of s′ h q low)
+      rw (le-leb t (poolWords (s .terms .p) (s .terms .m)) (sized (s .terms) t (sizes-of s′ h) .top-high))
+      (sym (ap (laneFits (s .terms)) lane-new) ∙ lane-of s′ h q low)
 
-  whole : (leb t (poolWords (s .p) (s .m)) && laneFits (s .p) (s .m) l) ≡ stateFits s′
+  whole : (leb t (poolWords (s .terms .p) (s .terms .m)) && laneFits (s .terms) l) ≡ stateFits s′
   whole = both-ways _ _ to fro
 
 pub new-numbers : NewNumbers

@@ -23,7 +23,7 @@ use Rattle.steps.specs.Changes.{laneAfter, topAfter, memoryAfter}
 use Rattle.acts.specs.declared.Verdict.{Verdict}
 use Rattle.acts.specs.declared.Verdict.the-variants as Verdict
 use Rattle.acts.specs.Settled.{put-back}
-use Rattle.acts.specs.Calls.{settled, advance, verdictOf, effectOf, outcomeAs, sizesOf, seenBy}
+use Rattle.acts.specs.Calls.{settled, advance, verdictOf, effectOf, outcomeAs, turnIn}
 use Rattle.claims.specs.declared.Word.{Word}
 use Rattle.claims.specs.declared.Word.the-variants as Word
 use Rattle.claims.specs.Words.{wordAt}
@@ -83,17 +83,17 @@ module _ (s : State) (q : ℕ) (mem : Memory) (nx : Next) where
   nothing-else (Word.Marks r) h = keeps-marks Change.Nothing refl r
   nothing-else Word.Top h = refl
 
-  reading-only : (i : _) (v : ℕ) → Others (Change.Reading i v) (Word.Reading (i .0))
-  reading-only i v (Word.Reading j) h = getD-set-other (mem .readings) (i .0) j v 0 (λ e. h (ap Word.Reading e))
+  reading-only : (i v : ℕ) → Others (Change.Reading i v) (Word.Reading i)
+  reading-only i v (Word.Reading j) h = getD-set-other (mem .readings) i j v 0 (λ e. h (ap Word.Reading e))
   reading-only i v (Word.Link j) h = refl
   reading-only i v (Word.Directory j) h = refl
   reading-only i v (Word.Pool j) h = refl
   reading-only i v (Word.Marks r) h = keeps-marks (Change.Reading i v) refl r
   reading-only i v Word.Top h = refl
 
-  link-only : (i : _) (x : ℕ) → Others (Change.Link i x) (Word.Link (i .0))
+  link-only : (i x : ℕ) → Others (Change.Link i x) (Word.Link i)
   link-only i x (Word.Reading j) h = refl
-  link-only i x (Word.Link j) h = getD-set-other (mem .links) (i .0) j x 0 (λ e. h (ap Word.Link e))
+  link-only i x (Word.Link j) h = getD-set-other (mem .links) i j x 0 (λ e. h (ap Word.Link e))
   link-only i x (Word.Directory j) h = refl
   link-only i x (Word.Pool j) h = refl
   link-only i x (Word.Marks r) h = keeps-marks (Change.Link i x) refl r
@@ -136,8 +136,8 @@ module _ (s : State) (q : ℕ) (mem : Memory) (nx : Next) where
   lengths : (ch : Change) → (length (memoryAfter ch mem .readings) ≡ length (mem .readings)) × (length (memoryAfter ch mem .links) ≡ length (mem .links))
       × (length (memoryAfter ch mem .directory) ≡ length (mem .directory)) × (length (memoryAfter ch mem .pool) ≡ length (mem .pool))
   lengths Change.Nothing = (refl, refl, refl, refl)
-  lengths (Change.Reading i v) = (length-set (mem .readings) (i .0) v, refl, refl, refl)
-  lengths (Change.Link i x) = (refl, length-set (mem .links) (i .0) x, refl, refl)
+  lengths (Change.Reading i v) = (length-set (mem .readings) i v, refl, refl, refl)
+  lengths (Change.Link i x) = (refl, length-set (mem .links) i x, refl, refl)
   lengths (Change.Directory k x) = (refl, refl, length-set (mem .directory) k x, refl)
   lengths (Change.Mark start n x) = (refl, refl, refl, length-set (mem .pool) (start + offsetOf (n .0)) x)
   lengths (Change.Marks n) = (refl, refl, refl, refl)
@@ -150,17 +150,14 @@ module _ (s : State) (q : ℕ) (mem : Memory) (nx : Next) where
     others = h;
     drawn = λ x. keeps-drawn ch (d x);
     lanes = λ r k. lane-other s q (advance nx (laneAfter ch (laneOf s q))) (topAfter ch (s .top)) r k;
-    p = refl;
-    m = refl;
-    first = refl;
-    step = refl;
+    terms = refl;
     lent = lengths ch;
   }
 
   moved : (ch : Change) → Changed q s (after ch) mem (memoryAfter ch mem)
   moved Change.Nothing = one Change.Nothing Word.Top nothing-else (λ x. refl)
-  moved (Change.Reading i v) = one (Change.Reading i v) (Word.Reading (i .0)) (reading-only i v) (λ x. refl)
-  moved (Change.Link i x) = one (Change.Link i x) (Word.Link (i .0)) (link-only i x) (λ y. refl)
+  moved (Change.Reading i v) = one (Change.Reading i v) (Word.Reading i) (reading-only i v) (λ x. refl)
+  moved (Change.Link i x) = one (Change.Link i x) (Word.Link i) (link-only i x) (λ y. refl)
   moved (Change.Directory k x) = one (Change.Directory k x) (Word.Directory k) (directory-only k x) (λ y. refl)
   moved (Change.Mark start n x) = one (Change.Mark start n x) (Word.Pool (start + offsetOf (n .0))) (pool-only start n x) (λ y. refl)
   moved (Change.Marks n) = one (Change.Marks n) (Word.Marks q) (marks-only n) (λ y. refl)
@@ -172,15 +169,12 @@ unchanged q s mem = record {
   others = λ w h. refl;
   drawn = λ h. refl;
   lanes = λ r h. refl;
-  p = refl;
-  m = refl;
-  first = refl;
-  step = refl;
+  terms = refl;
   lent = (refl, refl, refl, refl);
 }
 
 pub a-step-changes-one-word : ChangesOneWord
-a-step-changes-one-word s q mem = by (verdictOf (stateFits s) (sizesOf s) q (laneOf s q) (seenBy s q) mem)
+a-step-changes-one-word s q mem = by (verdictOf (stateFits s) (s .terms) (s .top) q (laneOf s q) mem (turnIn s q mem))
   where
     by : (v : Verdict) → Changed q s (outcomeAs s q (effectOf (laneOf s q) (s .top) mem v) .stepped .state) mem
         (outcomeAs s q (effectOf (laneOf s q) (s .top) mem v) .memory)

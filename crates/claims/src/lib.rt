@@ -1,19 +1,20 @@
 // What open, begin and step keep to in any state and memory: one outcome, harmless refusals, one shared word a step.
 ghost use mathlib.Core.Path.{_≡_};
-ghost use Rattle.claims.specs.Words.{touchedIn, touchedAt, touched};
+ghost use Rattle.claims.specs.Words.{touchedIn, touchedMarking, touched};
 ghost use Prim.Native.Nat.{_+_};
 ghost use Rattle.numbers.specs.Numbers.{offsetOf};
 use lanes::Check;
+use lanes::Marking;
 use lanes::Op;
-use lanes::Stage;
 use numbers::Cell;
 use numbers::Place;
 use numbers::Process;
+use numbers::Terms;
 
-// The shared words: the lent words, each lane's marks in force, and the pool's top.
+// The shared words: the lent words by their index, each lane's marks in force, and the pool's top.
 pub enum Word {
-    Reading(u32),
-    Link(u32),
+    Reading(usize),
+    Link(usize),
     Directory(usize),
     Pool(usize),
     Marks(u32),
@@ -27,11 +28,11 @@ fn pool_word(start: u32, n: Place) -> Word
     Word::Pool(start as usize + numbers::offset_of(n) as usize)
 }
 
-fn touched_in(i: Cell, c: Check) -> Word
-    ensures { λ r. ⌜ r ≡ touchedIn (i .0) c ⌝ }
+fn touched_in(z: Terms, i: Cell, c: Check) -> Word
+    ensures { λ r. ⌜ r ≡ touchedIn z i c ⌝ }
 {
     match c {
-        Check::Link => Word::Link(i.0),
+        Check::Link => Word::Link(numbers::index_of(z, i)),
         Check::Marks(w) => Word::Marks(numbers::process_of(w).0),
         Check::Directory(w) => {
             let s = numbers::segment_of(numbers::place_of(w));
@@ -41,34 +42,34 @@ fn touched_in(i: Cell, c: Check) -> Word
     }
 }
 
-fn touched_at(q: Process, directory: &[u32], i: Cell, t: Stage) -> Word
-    ensures { λ r. ⌜ r ≡ touchedAt (q .0) (now (directory .entry)) (i .0) t ⌝ }
+fn touched_marking(z: Terms, q: Process, directory: &[u32], i: Cell, k: Marking) -> Word
+    ensures { λ r. ⌜ r ≡ touchedMarking z (q .0) (now (directory .entry)) i k ⌝ }
 {
-    match t {
-        Stage::Store(_) => Word::Reading(i.0),
-        Stage::Check(c) => touched_in(i, c),
-        Stage::Draw(_, _, _) => Word::Top,
-        Stage::Enter(_, _, _, n) => Word::Directory(numbers::directory_word(
+    match k {
+        Marking::Draw(_, _, _) => Word::Top,
+        Marking::Enter(_, _, _, n) => Word::Directory(numbers::directory_word(
             q,
             numbers::segment_of(n),
         )),
-        Stage::Tombstone(_, n) => pool_word(steps::look::start_of(directory, q, n), n),
-        Stage::Mark(_, n) => pool_word(steps::look::start_of(directory, q, n), n),
-        Stage::Force(_, _) => Word::Marks(q.0),
-        Stage::Swap(_, _) => Word::Link(i.0),
-        Stage::TakeBack(_) => Word::Marks(q.0),
+        Marking::Tombstone(_, n) => pool_word(steps::look::start_of(directory, q, n), n),
+        Marking::Mark(_, n) => pool_word(steps::look::start_of(directory, q, n), n),
+        Marking::Force(_, _) => Word::Marks(q.0),
+        Marking::Swap(_, _) => Word::Link(numbers::index_of(z, i)),
+        Marking::TakeBack(_) => Word::Marks(q.0),
     }
 }
 
 // The one shared word that the next step of process q touches, its operation being o.
-pub fn touched(q: Process, directory: &[u32], o: Op) -> Word
-    ensures { λ r. ⌜ r ≡ touched (q .0) (now (directory .entry)) o ⌝ }
+pub fn touched(z: Terms, q: Process, directory: &[u32], o: Op) -> Word
+    ensures { λ r. ⌜ r ≡ touched z (q .0) (now (directory .entry)) o ⌝ }
 {
     match o {
         Op::Idle => Word::Top,
-        Op::Read(i, c) => touched_in(i, c),
-        Op::Reading(i) => Word::Reading(i.0),
-        Op::Asked(i, c) => touched_in(i, c),
-        Op::Write(i, t) => touched_at(q, directory, i, t),
+        Op::Read(i, c) => touched_in(z, i, c),
+        Op::Reading(i) => Word::Reading(numbers::index_of(z, i)),
+        Op::Asked(i, c) => touched_in(z, i, c),
+        Op::Store(i, _) => Word::Reading(numbers::index_of(z, i)),
+        Op::Write(i, c) => touched_in(z, i, c),
+        Op::Marking(i, k) => touched_marking(z, q, directory, i, k),
     }
 }

@@ -6,25 +6,24 @@ use Prim.Native.Nat.{ℕ}
 use mathlib.Core.Path.{_≡_}
 use mathlib.Core.Logic.{_⊎_}
 use mathlib.Core.List.{List, List·Memᴰ}
-use Rattle.acts.specs.Calls.{beginOf, stepOf}
-use Rattle.theory.specs.Interface.{write, Done, Entry, Orderly, Is}
-use Rattle.demands.specs.Types.{Cell, State, Memory, Ask}
-use Rattle.demands.specs.Calls.{Machine}
+use Rattle.acts.specs.Worlds.{Machine}
+use Rattle.theory.specs.Array.{Writing}
+use Rattle.theory.specs.Order.{Done, Entry, Orderly, Is}
+use Rattle.demands.specs.Types.{Terms, Memory}
+use Rattle.demands.specs.Kinds.{Kind}
 use Rattle.demands.specs.Book.{busy, Book}
 
--- In any state and memory: what a step makes of them is what the definitions of document 01's list make of them.
-pub record ByTheList (M : Machine) : Type 0 where
-  pub begins : (s : State) (q : ℕ) (a : Ask) → M .begin s q a ≡ beginOf s q a
-  pub steps : (s : State) (q : ℕ) (mem : Memory) → M .step s q mem ≡ stepOf s q mem
+-- In any state and memory: what a call makes of them is what the definitions of the kind's step list make of them.
+pub record ByTheList {S A : Type 0} (K : Kind S A) (M : Machine S A) : Type 0 where
+  pub opens : (z : Terms) (mem : Memory) → M .opens z mem ≡ K .ours .opens z mem
+  pub begins : (s : S) (q : ℕ) (a : A) → M .begin s q a ≡ K .ours .begin s q a
+  pub steps : (s : S) (q : ℕ) (mem : Memory) → M .step s q mem ≡ K .ours .step s q mem
 
--- The entry is a write that the book shows under way.
+-- The entry is an operation that the book shows under way, and one that counts as a write.
 pub record Unfinished (b : Book) (e : Entry) : Type 0 where
-  pub cell : Cell
-  pub value : ℕ
   pub taken : ℕ
-  pub doing : b .doing (e .who) ≡ busy (e .began) (Ask.Write cell value) taken
-  pub is-op : e .op ≡ write value
-  pub is-cell : e .cell ≡ cell .0
+  pub doing : b .doing (e .who) ≡ busy (e .began) (e .op) (e .cell) taken
+  pub writes : Writing (e .op)
 
 -- One order, the newest first. `Orderly`: each answer is the array's after those before it; each operation takes its
 -- place after the call that began it, and not before any of those before it; none stands twice. `Is`: a finished

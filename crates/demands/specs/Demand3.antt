@@ -4,15 +4,16 @@
 -- Assumes nothing.
 use Prim.Native.Nat.{ℕ, suc, _+_, _*_, _≤_, _<_}
 use mathlib.Core.Path.{_≡_}
-use Rattle.theory.specs.Interface.{sum}
-use Rattle.demands.specs.Types.{Ask, Answer}
-use Rattle.demands.specs.Calls.{Machine}
+use Rattle.acts.specs.Worlds.{Machine}
+use Rattle.theory.specs.Array.{Op, read, asked, write}
+use Rattle.theory.specs.Sum.{sum}
+use Rattle.demands.specs.Types.{Terms, State, Answer}
 use Rattle.demands.specs.Book.{Doing, nothing, busy, Book, Run}
 
-abbrev pub mostSteps : Ask → ℕ
-mostSteps (Ask.Read i) = 5
-mostSteps (Ask.Asked i) = 4
-mostSteps (Ask.Write i v) = 11
+abbrev pub mostSteps : Op → ℕ
+mostSteps read = 5
+mostSteps asked = 4
+mostSteps (write v) = 11
 
 -- An operation ends with the count of its steps, at most so many.
 abbrev pub Reports : ℕ → ℕ → ℕ → Type 0
@@ -38,19 +39,19 @@ Refuses (Answer.Refused r) = Unit {0}
 
 abbrev pub Counts : Doing → Answer → Type 0
 Counts nothing x = Refuses x
-Counts (busy began a taken) x = Answers (mostSteps a) (suc taken) x
+Counts (busy began o i taken) x = Answers (mostSteps o) (suc taken) x
 
 -- The next step of any process.
-abbrev pub Counted : Machine → Run → Type 0
-Counted M r = (q : ℕ) → Counts (r .book .doing q) (M .step (r .world .state) q (r .world .memory) .stepped .answer)
+abbrev pub Counted : {S A : Type 0} → Machine S A → Run S → Type 0
+Counted M r = (q : ℕ) → Counts (r .book .doing q) (M .step (r .world .state) q (r .world .memory) .answer)
 
 -- `cells` and `procs` are 1 or 0: their sums count the different cells and loaders.
-abbrev pub poolBound : ℕ → ℕ → Book → ℕ
-poolBound p m b = 4 * sum (b .cells) m + 2 * sum (b .procs) p
+abbrev pub poolBound : Terms → Book → ℕ
+poolBound z b = 4 * sum (b .cells) (z .m) + 2 * sum (b .procs) (z .p)
 
-abbrev pub PoolSpent : ℕ → ℕ → Run → Type 0
-PoolSpent p m r = r .world .state .top ≤ poolBound p m (r .book)
+abbrev pub PoolSpent : Terms → State → Book → Type 0
+PoolSpent z s b = s .top ≤ poolBound z b
 
 -- "So a pool of 4 per cell plus 2 per loader never runs short."
-abbrev pub PoolSuffices : ℕ → ℕ → Run → Type 0
-PoolSuffices p m r = r .world .state .top ≤ 4 * m + 2 * p
+abbrev pub PoolSuffices : Terms → State → Type 0
+PoolSuffices z s = s .top ≤ 4 * z .m + 2 * z .p

@@ -1,33 +1,9 @@
--- the statements
 pub mod Types
-pub mod Calls
+pub mod Kinds
 pub mod Book
 pub mod Agrees
 pub mod Demand1
 pub mod Demand2
 pub mod Demand3
 pub mod Demanded
--- demand 1
-pub mod Refused
--- the bridge to the theory
-pub mod Shadow
-pub mod ShadowLaws
-pub mod Good
-pub mod Goes
-pub mod Looks
-pub mod Writes
-pub mod Keep
-pub mod KeepStep
-pub mod Views
--- the theorems
-pub mod Opens
-pub mod Runs
-pub mod Proved
-pub mod Vanish
-pub mod Theorems
--- the statements bite
-pub mod Histories
-pub mod Mistakes
-pub mod Lost
-pub mod Tight
-pub mod Shams
+pub mod Vanishing

@@ -1,19 +1,19 @@
--- The code's types and their cases, gathered for short headers.
+-- The code's types and their cases, and the array's operations, gathered for short headers.
 -- Assumes nothing.
 pub use Rattle.numbers.specs.declared.Cell.{Cell}
 pub use Rattle.numbers.specs.declared.Place.{Place}
+pub use Rattle.numbers.specs.declared.Terms.{Terms}
 pub use Rattle.refusals.specs.declared.Refusal.{Refusal}
 pub use Rattle.refusals.specs.declared.Refusal.the-variants as Refusal
 pub use Rattle.lanes.specs.declared.Check.{Check}
 pub use Rattle.lanes.specs.declared.Check.the-variants as Check
-pub use Rattle.lanes.specs.declared.Stage.{Stage}
-pub use Rattle.lanes.specs.declared.Stage.the-variants as Stage
+pub use Rattle.lanes.specs.declared.Marking.{Marking}
+pub use Rattle.lanes.specs.declared.Marking.the-variants as Marking
 pub use Rattle.lanes.specs.declared.Op.{Op}
 pub use Rattle.lanes.specs.declared.Op.the-variants as Op
 pub use Rattle.lanes.specs.declared.Lane.{Lane}
 pub use Rattle.lanes.specs.declared.State.{State}
 pub use Rattle.steps.specs.Memory.{Memory}
-pub use Rattle.steps.specs.declared.Sizes.{Sizes}
 pub use Rattle.steps.specs.declared.Got.{Got}
 pub use Rattle.steps.specs.declared.Got.the-variants as Got
 pub use Rattle.steps.specs.declared.Found.{Found}

@@ -1,1 +1,1 @@
-// The customer's three demands, stated and proved over the grid's definitions: its theorems stand in specs/, and it exports no function.
+// The letter's three demands, stated over a machine of a kind of array: definitions alone, in specs/; it exports no function.

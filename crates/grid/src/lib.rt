@@ -9,26 +9,26 @@ use acts::Stepped;
 use acts::begins;
 use acts::opens;
 use lanes::State;
+use numbers::Mark;
 use numbers::Process;
-use steps::Sizes;
+use numbers::Terms;
+
+// What a refused open leaves: terms that no call takes.
+const CLOSED: Terms = Terms {
+    p: 0,
+    m: 0,
+    first: 0,
+    step: 0,
+};
 
 // Opens a grid in lent memory of any content: only the lengths are looked at.
-pub fn open(
-    p: u32,
-    m: u32,
-    first: u32,
-    step: u32,
-    readings: &[u32],
-    links: &[u64],
-    directory: &[u32],
-    pool: &[u32],
-) -> Opened
-    ensures { λ r. ⌜ r ≡ openOf p m first step (memory (now (readings .entry)) (now (links .entry)) (now (directory .entry)) (now (pool .entry))) ⌝ }
+pub fn open(z: Terms, readings: &[u32], links: &[u64], directory: &[u32], pool: &[Mark]) -> Opened
+    ensures { λ r. ⌜ r ≡ openOf z (memory (now (readings .entry)) (now (links .entry)) (now (directory .entry)) (now (pool .entry))) ⌝ }
 {
-    let is = opens::opening_of(p, m, readings, links, directory, pool);
+    let is = opens::opening_of(z, readings, links, directory, pool);
     match is {
-        Opening::Open => opens::opened(p, m, first, step, Opening::Open),
-        Opening::Refused(r) => opens::opened(0, 0, 0, 0, Opening::Refused(r)),
+        Opening::Open => opens::opened(z, Opening::Open),
+        Opening::Refused(r) => opens::opened(CLOSED, Opening::Refused(r)),
     }
 }
 
@@ -39,14 +39,17 @@ pub fn begin(s: State, q: Process, a: Ask) -> Stepped
     let mut t = s;
     let k = begins::lane_of(q);
     let l = t.lanes[k];
-    let mut fits = lanes::sizes_fit(t.p, t.m, t.top);
-    let end = begins::lanes_below(fits, t.p);
+    let z = t.terms;
+    let mut fits = lanes::sizes_fit(z, t.top);
+    let end = begins::lanes_below(fits, z.p);
     let mut i: usize = 0;
     while i < end {
-        fits = logic::both(fits, lanes::lane_fits(t.p, t.m, t.lanes[i]));
+        fits = logic::both(fits, lanes::lane_fits(z, t.lanes[i]));
         i = i + 1;
     }
-    let b = begins::begun(fits, t.p, t.m, t.top, q, l, a);
+    let cell = begins::cell_of(a);
+    let o = begins::op_of(a);
+    let b = begins::begun(fits, z, t.top, q, l, cell, o);
     let lane = b.lane;
     let answer = b.answer;
     t.top = b.top;
@@ -65,7 +68,7 @@ pub fn step(
     readings: &mut [u32],
     links: &mut [u64],
     directory: &mut [u32],
-    pool: &mut [u32],
+    pool: &mut [Mark],
 ) -> Stepped
     ensures { λ r. ⌜ outcome r (memory (now (readings .exit)) (now (links .exit)) (now (directory .exit)) (now (pool .exit))) ≡ stepOf s (q .0) (memory (now (readings .entry)) (now (links .entry)) (now (directory .entry)) (now (pool .entry))) ⌝ }
 {
@@ -75,21 +78,26 @@ pub fn step(
     let o = l.op;
     let j = begins::lane_of(judged::named(o));
     let other = t.lanes[j];
-    let z = Sizes {
-        p: t.p,
-        m: t.m,
-        first: t.first,
-        step: t.step,
-        top: t.top,
-    };
-    let mut fits = lanes::sizes_fit(t.p, t.m, t.top);
-    let end = begins::lanes_below(fits, t.p);
+    let z = t.terms;
+    let mut fits = lanes::sizes_fit(z, t.top);
+    let end = begins::lanes_below(fits, z.p);
     let mut i: usize = 0;
     while i < end {
-        fits = logic::both(fits, lanes::lane_fits(t.p, t.m, t.lanes[i]));
+        fits = logic::both(fits, lanes::lane_fits(z, t.lanes[i]));
         i = i + 1;
     }
-    let b = judged::act(fits, z, q, l, other.marks, readings, links, directory, pool);
+    let b = judged::act(
+        fits,
+        z,
+        t.top,
+        q,
+        l,
+        other.marks,
+        readings,
+        links,
+        directory,
+        pool,
+    );
     let answer = b.answer;
     if begins::changes(answer) {
         let lane = b.lane;

@@ -4,9 +4,11 @@ ghost use Prim.Native.Nat.{_≤_};
 ghost use Rattle.numbers.specs.Numbers.{mostSteps};
 ghost use Rattle.steps.specs.Memory.{memory};
 ghost use Rattle.steps.specs.Changes.{laneAfter, topAfter};
-ghost use Rattle.acts.specs.Calls.{namedIn, namedAt, named, advance, answerOf, decided, verdictOf, effect, actOf};
-ghost use Rattle.acts.specs.Inner.{Judged};
-ghost use Rattle.judged.specs.Inner.{changeFits, stageNew, opNew, nextFits, newFits, Told, movedTo};
+ghost use Rattle.steps.specs.Steps.{turnOf};
+ghost use Rattle.steps.specs.Inner.{handed};
+ghost use Rattle.acts.specs.Calls.{advance, answerOf, decided, verdictOf, effect, actOf};
+ghost use Rattle.acts.specs.Inner.{namedIn, named, Judged};
+ghost use Rattle.judged.specs.Inner.{changeFits, markingGoes, opGoes, nextFits, newFits, Told, movedTo};
 use acts::Acted;
 use acts::Answer;
 use acts::Verdict;
@@ -14,15 +16,16 @@ use acts::begins;
 use acts::opens;
 use lanes::Check;
 use lanes::Lane;
+use lanes::Marking;
 use lanes::Op;
-use lanes::Stage;
+use numbers::Mark;
 use numbers::Process;
 use numbers::SEGMENTS;
 use numbers::STEPS;
+use numbers::Terms;
 use refusals::Refusal;
 use steps::Change;
 use steps::Next;
-use steps::Sizes;
 use steps::Turn;
 
 fn named_in(c: Check) -> Process
@@ -36,22 +39,6 @@ fn named_in(c: Check) -> Process
     }
 }
 
-fn named_at(t: Stage) -> Process
-    ensures { λ r. ⌜ r .0 ≡ namedAt t ⌝ }
-{
-    match t {
-        Stage::Store(_) => Process(0),
-        Stage::Check(c) => named_in(c),
-        Stage::Draw(_, _, _) => Process(0),
-        Stage::Enter(_, _, _, _) => Process(0),
-        Stage::Tombstone(_, _) => Process(0),
-        Stage::Mark(_, _) => Process(0),
-        Stage::Force(_, _) => Process(0),
-        Stage::Swap(_, _) => Process(0),
-        Stage::TakeBack(_) => Process(0),
-    }
-}
-
 // The process whose marks in force the next step reads; 0 where it reads none.
 pub fn named(o: Op) -> Process
     ensures { λ r. ⌜ r .0 ≡ named o ⌝ }
@@ -61,7 +48,9 @@ pub fn named(o: Op) -> Process
         Op::Read(_, c) => named_in(c),
         Op::Reading(_) => Process(0),
         Op::Asked(_, c) => named_in(c),
-        Op::Write(_, t) => named_at(t),
+        Op::Store(_, _) => Process(0),
+        Op::Write(_, c) => named_in(c),
+        Op::Marking(_, _) => Process(0),
     }
 }
 
@@ -139,7 +128,7 @@ fn answer_of(steps: u8, next: Next) -> Answer
     }
 }
 
-fn change_fits(z: Sizes, change: Change) -> bool
+fn change_fits(z: Terms, change: Change) -> bool
     ensures { λ r. ⌜ r ≡ changeFits z change ⌝ }
 {
     match change {
@@ -159,39 +148,40 @@ fn change_fits(z: Sizes, change: Change) -> bool
     }
 }
 
-fn stage_new(m: u32, t: Stage) -> bool
-    ensures { λ r. ⌜ r ≡ stageNew m t ⌝ }
+// Whether the place of the marking that a step goes on with is in its range: only after a tombstone is it another one.
+fn marking_goes(z: Terms, k: Marking) -> bool
+    ensures { λ r. ⌜ r ≡ markingGoes z k ⌝ }
 {
-    match t {
-        Stage::Store(_) => true,
-        Stage::Check(_) => true,
-        Stage::Draw(_, _, n) => lanes::place_fits(m, n),
-        Stage::Enter(_, _, _, _) => true,
-        Stage::Tombstone(_, _) => true,
-        Stage::Mark(_, n) => lanes::place_fits(m, n),
-        Stage::Force(_, _) => true,
-        Stage::Swap(_, _) => true,
-        Stage::TakeBack(_) => true,
+    match k {
+        Marking::Draw(_, _, _) => true,
+        Marking::Enter(_, _, _, _) => true,
+        Marking::Tombstone(_, n) => (n.0 as usize) < numbers::most_marks(z.m),
+        Marking::Mark(_, _) => true,
+        Marking::Force(_, _) => true,
+        Marking::Swap(_, _) => true,
+        Marking::TakeBack(_) => true,
     }
 }
 
-fn op_new(m: u32, o: Op) -> bool
-    ensures { λ r. ⌜ r ≡ opNew m o ⌝ }
+fn op_goes(z: Terms, o: Op) -> bool
+    ensures { λ r. ⌜ r ≡ opGoes z o ⌝ }
 {
     match o {
         Op::Idle => true,
         Op::Read(_, _) => true,
         Op::Reading(_) => true,
         Op::Asked(_, _) => true,
-        Op::Write(_, t) => stage_new(m, t),
+        Op::Store(_, _) => true,
+        Op::Write(_, _) => true,
+        Op::Marking(_, k) => marking_goes(z, k),
     }
 }
 
-fn next_fits(m: u32, steps: u8, next: Next) -> bool
-    ensures { λ r. ⌜ r ≡ nextFits m steps next ⌝ }
+fn next_fits(z: Terms, steps: u8, o: Op, next: Next) -> bool
+    ensures { λ r. ⌜ r ≡ nextFits z steps o next ⌝ }
 {
     match next {
-        Next::Going(o) => { if steps < STEPS { op_new(m, o) } else { false } }
+        Next::Going(_) => { if steps < STEPS { op_goes(z, o) } else { false } }
         Next::Read(_, _) => true,
         Next::Written => true,
         Next::Asked(_) => true,
@@ -200,19 +190,20 @@ fn next_fits(m: u32, steps: u8, next: Next) -> bool
 
 // Whether the numbers that a step can put outside their ranges stay there. The new lane is not looked at whole: the step took
 // the rest of it over.
-fn new_fits(z: Sizes, l: Lane, change: Change, next: Next) -> bool
+fn new_fits(z: Terms, l: Lane, change: Change, next: Next) -> bool
     ensures { λ r. ⌜ r ≡ newFits z l change next ⌝ }
 {
+    let o = l.op;
     if change_fits(z, change) {
-        next_fits(z.m, l.steps, next)
+        next_fits(z, l.steps, o, next)
     } else {
         false
     }
 }
 
-fn decided(z: Sizes, l: Lane, t: Turn) -> Verdict
-    requires { ⌜ Told z l t ⌝ }
-    ensures { λ r. ⌜ r ≡ decided z l t ⌝ }
+fn decided(z: Terms, top: u32, l: Lane, t: Turn) -> Verdict
+    requires { ⌜ Told z top l t ⌝ }
+    ensures { λ r. ⌜ r ≡ decided z top l t ⌝ }
 {
     match t {
         Turn::Outside => Verdict::Refused(Refusal::OutOfRange),
@@ -229,22 +220,23 @@ fn decided(z: Sizes, l: Lane, t: Turn) -> Verdict
 // The refusals of a step in their order; `fits` says whether the state's numbers are in their ranges.
 fn verdict_of(
     fits: bool,
-    z: Sizes,
+    z: Terms,
+    top: u32,
     q: Process,
     l: Lane,
     seen: u32,
     readings: &[u32],
     links: &[u64],
     directory: &[u32],
-    pool: &[u32],
+    pool: &[Mark],
 ) -> Verdict
-    requires { ⌜ Judged fits z (q .0) l seen ⌝ }
-    ensures { λ r. ⌜ r ≡ verdictOf fits z (q .0) l seen (memory (now (readings .entry)) (now (links .entry)) (now (directory .entry)) (now (pool .entry))) ⌝ }
+    requires { ⌜ Judged fits z top (q .0) l seen ⌝ }
+    ensures { λ r. ⌜ r ≡ verdictOf fits z top (q .0) l (memory (now (readings .entry)) (now (links .entry)) (now (directory .entry)) (now (pool .entry))) (turnOf z top (q .0) l (handed seen) (memory (now (readings .entry)) (now (links .entry)) (now (directory .entry)) (now (pool .entry)))) ⌝ }
 {
     if !fits {
         return Verdict::Refused(Refusal::OutOfRange);
     }
-    if !opens::lengths_fit(z.p, z.m, readings, links, directory, pool) {
+    if !opens::lengths_fit(z, readings, links, directory, pool) {
         return Verdict::Refused(Refusal::OtherLengths);
     }
     if z.p <= q.0 {
@@ -254,8 +246,8 @@ fn verdict_of(
     if lanes::idle(o) {
         return Verdict::Refused(Refusal::NothingUnderWay);
     }
-    let t = turns::turn_of(z, q, l, seen, readings, links, directory, pool);
-    decided(z, l, t)
+    let t = turns::turn_of(z, top, q, l, seen, readings, links, directory, pool);
+    decided(z, top, l, t)
 }
 
 fn moved(l: Lane, top: u32, change: Change, next: Next) -> Acted
@@ -274,24 +266,25 @@ fn moved(l: Lane, top: u32, change: Change, next: Next) -> Acted
 // The step of process q, whose lane is l: judged first, so that a refusal stores nothing.
 pub fn act(
     fits: bool,
-    z: Sizes,
+    z: Terms,
+    top: u32,
     q: Process,
     l: Lane,
     seen: u32,
     readings: &mut [u32],
     links: &mut [u64],
     directory: &mut [u32],
-    pool: &mut [u32],
+    pool: &mut [Mark],
 ) -> Acted
-    requires { ⌜ Judged fits z (q .0) l seen ⌝ }
-    ensures { λ r. ⌜ effect r (memory (now (readings .exit)) (now (links .exit)) (now (directory .exit)) (now (pool .exit))) ≡ actOf fits z (q .0) l seen (memory (now (readings .entry)) (now (links .entry)) (now (directory .entry)) (now (pool .entry))) ⌝ }
+    requires { ⌜ Judged fits z top (q .0) l seen ⌝ }
+    ensures { λ r. ⌜ effect r (memory (now (readings .exit)) (now (links .exit)) (now (directory .exit)) (now (pool .exit))) ≡ actOf fits z top (q .0) l (memory (now (readings .entry)) (now (links .entry)) (now (directory .entry)) (now (pool .entry))) (turnOf z top (q .0) l (handed seen) (memory (now (readings .entry)) (now (links .entry)) (now (directory .entry)) (now (pool .entry)))) ⌝ }
 {
-    let v = verdict_of(fits, z, q, l, seen, readings, links, directory, pool);
+    let v = verdict_of(fits, z, top, q, l, seen, readings, links, directory, pool);
     match v {
-        Verdict::Refused(r) => begins::refused(l, z.top, r),
+        Verdict::Refused(r) => begins::refused(l, top, r),
         Verdict::Moved(change, next) => {
             steps::store::store(readings, links, directory, pool, change);
-            moved(l, z.top, change, next)
+            moved(l, top, change, next)
         }
     }
 }

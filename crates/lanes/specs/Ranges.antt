@@ -4,13 +4,17 @@ use Prim.Native.Nat.{ℕ}
 use mathlib.Core.Bool.{Bool, true, false, _&&_}
 use lib.Dec.{ltb, leb, eqb}
 use lib.ListN.{getD}
-use Rattle.numbers.specs.Numbers.{mostProcesses, mostCells, mostSegments, mostSteps, mostMarks, poolWords, processOf, placeOf}
-use Rattle.numbers.specs.declared.Place.{Place}
+use Rattle.logic.specs.Pick.{pick}
 use Rattle.logic.specs.Below.{below}
+use Rattle.numbers.specs.Numbers.{mostSegments, mostSteps, mostMarks, poolWords, processOf, placeOf}
+use Rattle.numbers.specs.Cells.{processesFit, cellsFit, cellFits}
+use Rattle.numbers.specs.declared.Cell.{Cell}
+use Rattle.numbers.specs.declared.Place.{Place}
+use Rattle.numbers.specs.declared.Terms.{Terms}
 use Rattle.lanes.specs.declared.Check.{Check}
 use Rattle.lanes.specs.declared.Check.the-variants as Check
-use Rattle.lanes.specs.declared.Stage.{Stage}
-use Rattle.lanes.specs.declared.Stage.the-variants as Stage
+use Rattle.lanes.specs.declared.Marking.{Marking}
+use Rattle.lanes.specs.declared.Marking.the-variants as Marking
 use Rattle.lanes.specs.declared.Op.{Op}
 use Rattle.lanes.specs.declared.Op.the-variants as Op
 use Rattle.lanes.specs.declared.Lane.{Lane}
@@ -20,9 +24,12 @@ use Rattle.lanes.specs.declared.State.{State}
 abbrev pub rest : Lane
 rest = record { marks = 0; drawn = 0; steps = 0; op = Op.Idle }
 
--- Process q's lane.
+-- Process q's lane, and its marks in force.
 abbrev pub laneOf : State → ℕ → Lane
 laneOf s q = getD (s .lanes) q rest
+
+abbrev pub marksOf : State → ℕ → ℕ
+marksOf s q = laneOf s q .marks
 
 -- No operation under way.
 abbrev pub idle : Op → Bool
@@ -30,52 +37,67 @@ idle Op.Idle = true
 idle (Op.Read i c) = false
 idle (Op.Reading i) = false
 idle (Op.Asked i c) = false
-idle (Op.Write i t) = false
+idle (Op.Store i v) = false
+idle (Op.Write i c) = false
+idle (Op.Marking i k) = false
+
+-- The cell of an operation under way.
+abbrev pub cellIn : Op → Cell
+cellIn Op.Idle = record { 0 = 0 }
+cellIn (Op.Read i c) = i
+cellIn (Op.Reading i) = i
+cellIn (Op.Asked i c) = i
+cellIn (Op.Store i v) = i
+cellIn (Op.Write i c) = i
+cellIn (Op.Marking i k) = i
+
+-- The place of a marking. The link that it remembers is any 64-bit value.
+abbrev pub placeIn : Marking → Place
+placeIn (Marking.Draw stored link n) = n
+placeIn (Marking.Enter stored start link n) = n
+placeIn (Marking.Tombstone link n) = n
+placeIn (Marking.Mark link n) = n
+placeIn (Marking.Force link n) = n
+placeIn (Marking.Swap link n) = n
+placeIn (Marking.TakeBack n) = n
 
 -- An operation's place: at most 2m + 1.
-abbrev pub placeFits : ℕ → Place → Bool
-placeFits m n = leb (n .0) (mostMarks m)
+abbrev pub placeFits : Terms → Place → Bool
+placeFits z n = leb (n .0) (mostMarks (z .m))
 
 -- A link that (b) has let through names a process below p, and such a place.
-abbrev pub linkFits : ℕ → ℕ → ℕ → Bool
-linkFits p m link = ltb (processOf link) p && leb (placeOf link) (mostMarks m)
+abbrev pub linkFits : Terms → ℕ → Bool
+linkFits z link = ltb (processOf link) (z .p) && leb (placeOf link) (mostMarks (z .m))
 
 -- A link that only (a) has seen names a process below p, and any place.
-abbrev pub checkFits : ℕ → ℕ → Check → Bool
-checkFits p m Check.Link = true
-checkFits p m (Check.Marks link) = ltb (processOf link) p
-checkFits p m (Check.Directory link) = linkFits p m link
-checkFits p m (Check.Mark start link) = linkFits p m link
+abbrev pub checkFits : Terms → Check → Bool
+checkFits z Check.Link = true
+checkFits z (Check.Marks link) = ltb (processOf link) (z .p)
+checkFits z (Check.Directory link) = linkFits z link
+checkFits z (Check.Mark start link) = linkFits z link
 
--- The remembered link of a write is any 64-bit value.
-abbrev pub stageFits : ℕ → ℕ → Stage → Bool
-stageFits p m (Stage.Store v) = true
-stageFits p m (Stage.Check c) = checkFits p m c
-stageFits p m (Stage.Draw stored link n) = placeFits m n
-stageFits p m (Stage.Enter stored start link n) = placeFits m n
-stageFits p m (Stage.Tombstone link n) = placeFits m n
-stageFits p m (Stage.Mark link n) = placeFits m n
-stageFits p m (Stage.Force link n) = placeFits m n
-stageFits p m (Stage.Swap link n) = placeFits m n
-stageFits p m (Stage.TakeBack n) = placeFits m n
+-- What an operation holds beside its cell.
+abbrev pub restFits : Terms → Op → Bool
+restFits z Op.Idle = true
+restFits z (Op.Read i c) = checkFits z c
+restFits z (Op.Reading i) = true
+restFits z (Op.Asked i c) = checkFits z c
+restFits z (Op.Store i v) = true
+restFits z (Op.Write i c) = checkFits z c
+restFits z (Op.Marking i k) = placeFits z (placeIn k)
 
--- Own steps so far: 0 with no operation under way. The cell is below m.
-abbrev pub opFits : ℕ → ℕ → ℕ → Op → Bool
-opFits p m steps Op.Idle = eqb steps 0
-opFits p m steps (Op.Read i c) = ltb (i .0) m && checkFits p m c
-opFits p m steps (Op.Reading i) = ltb (i .0) m
-opFits p m steps (Op.Asked i c) = ltb (i .0) m && checkFits p m c
-opFits p m steps (Op.Write i t) = ltb (i .0) m && stageFits p m t
+-- Own steps so far: 0 to 10; 0 with no operation under way. The cell of one under way is below m.
+abbrev pub opFits : Terms → ℕ → Op → Bool
+opFits z steps o = pick (idle o) (eqb steps 0) (leb steps mostSteps && (cellFits z (cellIn o) && restFits z o))
 
--- Marks in force 0 to 2m + 1, segments drawn 0 to 17, own steps so far 0 to 10.
-abbrev pub laneFits : ℕ → ℕ → Lane → Bool
-laneFits p m l =
-    leb (l .marks) (mostMarks m) && (leb (l .drawn) mostSegments && (leb (l .steps) mostSteps && opFits p m (l .steps) (l .op)))
+-- Marks in force 0 to 2m + 1, segments drawn 0 to 17.
+abbrev pub laneFits : Terms → Lane → Bool
+laneFits z l = leb (l .marks) (mostMarks (z .m)) && (leb (l .drawn) mostSegments && opFits z (l .steps) (l .op))
 
 -- p, m and the pool's top.
-abbrev pub sizesFit : ℕ → ℕ → ℕ → Bool
-sizesFit p m top = leb 1 p && (leb p mostProcesses && (leb 1 m && (leb m mostCells && leb top (poolWords p m))))
+abbrev pub sizesFit : Terms → ℕ → Bool
+sizesFit z top = processesFit (z .p) && (cellsFit (z .m) && leb top (poolWords (z .p) (z .m)))
 
 -- Lanes at or above p are not looked at.
 abbrev pub stateFits : State → Bool
-stateFits s = sizesFit (s .p) (s .m) (s .top) && below (s .p) (λ (q : ℕ). laneFits (s .p) (s .m) (laneOf s q))
+stateFits s = sizesFit (s .terms) (s .top) && below (s .terms .p) (λ (q : ℕ). laneFits (s .terms) (laneOf s q))

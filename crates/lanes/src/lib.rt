@@ -1,13 +1,12 @@
 // The state of a grid: its lanes, the operation under way in each, and the range of every number.
 ghost use mathlib.Core.Path.{_≡_};
-ghost use Rattle.lanes.specs.Ranges.{idle, placeFits, linkFits, checkFits, stageFits, opFits, laneFits, sizesFit};
-use numbers::CELLS;
+ghost use Rattle.lanes.specs.Ranges.{idle, cellIn, placeIn, placeFits, linkFits, checkFits, restFits, laneFits, sizesFit};
 use numbers::Cell;
 use numbers::LANES;
-use numbers::PROCESSES;
 use numbers::Place;
 use numbers::SEGMENTS;
 use numbers::STEPS;
+use numbers::Terms;
 
 // Where the check of a cell stands: the word that it reads next, and what it has read.
 pub enum Check {
@@ -21,12 +20,9 @@ pub enum Check {
     Mark(u32, u64),
 }
 
-// Where a write stands. A link is the remembered one; a bool says whether the tombstone is already stored.
-pub enum Stage {
-    // 1. the reading
-    Store(u32),
-    // 2.
-    Check(Check),
+// Where the marking of a cell stands, rules 3 to 8. The word is the link that (a) read; a bool says whether the tombstone is
+// already stored.
+pub enum Marking {
     // 3. the pool's top, then the directory
     Draw(bool, u64, Place),
     Enter(bool, u32, u64, Place),
@@ -42,14 +38,17 @@ pub enum Stage {
     TakeBack(Place),
 }
 
-// The operation under way, if any.
+// The operation under way, if any, at its stage.
 pub enum Op {
     Idle,
+    // a read: its check, and the reading once that has shown the cell written
     Read(Cell, Check),
-    // a read whose check has shown the cell written
     Reading(Cell),
     Asked(Cell, Check),
-    Write(Cell, Stage),
+    // a write: 1. the reading; 2. its check; 3. to 8. the marking
+    Store(Cell, u32),
+    Write(Cell, Check),
+    Marking(Cell, Marking),
 }
 
 pub struct Lane {
@@ -59,11 +58,9 @@ pub struct Lane {
     pub op: Op,
 }
 
+// What the grid was opened with, the pool's top and the lanes.
 pub struct State {
-    pub p: u32,
-    pub m: u32,
-    pub first: u32,
-    pub step: u32,
+    pub terms: Terms,
     pub top: u32,
     pub lanes: [Lane; LANES],
 }
@@ -77,70 +74,89 @@ pub fn idle(o: Op) -> bool
         Op::Read(_, _) => false,
         Op::Reading(_) => false,
         Op::Asked(_, _) => false,
+        Op::Store(_, _) => false,
         Op::Write(_, _) => false,
+        Op::Marking(_, _) => false,
     }
 }
 
-pub fn place_fits(m: u32, n: Place) -> bool
-    ensures { λ r. ⌜ r ≡ placeFits m n ⌝ }
+// The cell of an operation; cell 0 where none is under way.
+fn cell_in(o: Op) -> Cell
+    ensures { λ r. ⌜ r ≡ cellIn o ⌝ }
 {
-    n.0 as usize <= numbers::most_marks(m)
+    match o {
+        Op::Idle => Cell(0),
+        Op::Read(i, _) => i,
+        Op::Reading(i) => i,
+        Op::Asked(i, _) => i,
+        Op::Store(i, _) => i,
+        Op::Write(i, _) => i,
+        Op::Marking(i, _) => i,
+    }
 }
 
-fn link_fits(p: u32, m: u32, w: u64) -> bool
-    ensures { λ r. ⌜ r ≡ linkFits p m w ⌝ }
+// The place of a marking.
+pub fn place_in(k: Marking) -> Place
+    ensures { λ r. ⌜ r ≡ placeIn k ⌝ }
 {
-    if numbers::process_of(w).0 < p {
-        place_fits(m, numbers::place_of(w))
+    match k {
+        Marking::Draw(_, _, n) => n,
+        Marking::Enter(_, _, _, n) => n,
+        Marking::Tombstone(_, n) => n,
+        Marking::Mark(_, n) => n,
+        Marking::Force(_, n) => n,
+        Marking::Swap(_, n) => n,
+        Marking::TakeBack(n) => n,
+    }
+}
+
+pub fn place_fits(z: Terms, n: Place) -> bool
+    ensures { λ r. ⌜ r ≡ placeFits z n ⌝ }
+{
+    n.0 as usize <= numbers::most_marks(z.m)
+}
+
+fn link_fits(z: Terms, w: u64) -> bool
+    ensures { λ r. ⌜ r ≡ linkFits z w ⌝ }
+{
+    if numbers::process_of(w).0 < z.p {
+        place_fits(z, numbers::place_of(w))
     } else {
         false
     }
 }
 
-fn check_fits(p: u32, m: u32, c: Check) -> bool
-    ensures { λ r. ⌜ r ≡ checkFits p m c ⌝ }
+fn check_fits(z: Terms, c: Check) -> bool
+    ensures { λ r. ⌜ r ≡ checkFits z c ⌝ }
 {
     match c {
         Check::Link => true,
-        Check::Marks(w) => numbers::process_of(w).0 < p,
-        Check::Directory(w) => link_fits(p, m, w),
-        Check::Mark(_, w) => link_fits(p, m, w),
+        Check::Marks(w) => numbers::process_of(w).0 < z.p,
+        Check::Directory(w) => link_fits(z, w),
+        Check::Mark(_, w) => link_fits(z, w),
     }
 }
 
-fn stage_fits(p: u32, m: u32, s: Stage) -> bool
-    ensures { λ r. ⌜ r ≡ stageFits p m s ⌝ }
-{
-    match s {
-        Stage::Store(_) => true,
-        Stage::Check(c) => check_fits(p, m, c),
-        Stage::Draw(_, _, n) => place_fits(m, n),
-        Stage::Enter(_, _, _, n) => place_fits(m, n),
-        Stage::Tombstone(_, n) => place_fits(m, n),
-        Stage::Mark(_, n) => place_fits(m, n),
-        Stage::Force(_, n) => place_fits(m, n),
-        Stage::Swap(_, n) => place_fits(m, n),
-        Stage::TakeBack(n) => place_fits(m, n),
-    }
-}
-
-fn op_fits(p: u32, m: u32, steps: u8, o: Op) -> bool
-    ensures { λ r. ⌜ r ≡ opFits p m steps o ⌝ }
+// What an operation holds beside its cell.
+fn rest_fits(z: Terms, o: Op) -> bool
+    ensures { λ r. ⌜ r ≡ restFits z o ⌝ }
 {
     match o {
-        Op::Idle => steps == 0,
-        Op::Read(i, c) => { if i.0 < m { check_fits(p, m, c) } else { false } }
-        Op::Reading(i) => i.0 < m,
-        Op::Asked(i, c) => { if i.0 < m { check_fits(p, m, c) } else { false } }
-        Op::Write(i, s) => { if i.0 < m { stage_fits(p, m, s) } else { false } }
+        Op::Idle => true,
+        Op::Read(_, c) => check_fits(z, c),
+        Op::Reading(_) => true,
+        Op::Asked(_, c) => check_fits(z, c),
+        Op::Store(_, _) => true,
+        Op::Write(_, c) => check_fits(z, c),
+        Op::Marking(_, k) => place_fits(z, place_in(k)),
     }
 }
 
-// Whether a lane's numbers are in their ranges, in a grid of p processes and m cells. Most lanes are at rest: asked first.
-pub fn lane_fits(p: u32, m: u32, l: Lane) -> bool
-    ensures { λ r. ⌜ r ≡ laneFits p m l ⌝ }
+// Whether a lane's numbers are in their ranges. Most lanes are at rest: asked first.
+pub fn lane_fits(z: Terms, l: Lane) -> bool
+    ensures { λ r. ⌜ r ≡ laneFits z l ⌝ }
 {
-    if numbers::most_marks(m) < l.marks as usize {
+    if numbers::most_marks(z.m) < l.marks as usize {
         return false;
     }
     if SEGMENTS < l.drawn as u32 {
@@ -153,24 +169,21 @@ pub fn lane_fits(p: u32, m: u32, l: Lane) -> bool
     if STEPS < l.steps {
         return false;
     }
-    op_fits(p, m, l.steps, o)
+    if !numbers::cell_fits(z, cell_in(o)) {
+        return false;
+    }
+    rest_fits(z, o)
 }
 
 // Whether p, m and the pool's top are in their ranges.
-pub fn sizes_fit(p: u32, m: u32, top: u32) -> bool
-    ensures { λ r. ⌜ r ≡ sizesFit p m top ⌝ }
+pub fn sizes_fit(z: Terms, top: u32) -> bool
+    ensures { λ r. ⌜ r ≡ sizesFit z top ⌝ }
 {
-    if p < 1 {
+    if !numbers::processes_fit(z.p) {
         return false;
     }
-    if PROCESSES < p {
+    if !numbers::cells_fit(z.m) {
         return false;
     }
-    if m < 1 {
-        return false;
-    }
-    if CELLS < m {
-        return false;
-    }
-    top as usize <= numbers::pool_words(p, m)
+    top as usize <= numbers::pool_words(z.p, z.m)
 }

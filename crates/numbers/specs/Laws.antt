@@ -6,7 +6,7 @@ use native.Mathlib.Omega.{arith}
 use native.Mathlib.Numerals.{add-one}
 use lib.Pow.{pow-pos, pow-mono}
 use Rattle.numbers.specs.Numbers.{mostCells, mostSegments, mostMarks, segmentOf, offsetOf, sizeOf, sizesBelow}
-use Rattle.numbers.specs.Numbers.{linkProcesses, linkPlaces, packOf, processOf, placeOf}
+use Rattle.numbers.specs.Numbers.{linkProcesses, linkPlaces, linkOf, processOf, placeOf}
 use Rattle.numbers.specs.Logs.{double, double-next, segment-at, segment-around, segment-below}
 
 -- ---- segments
@@ -109,22 +109,22 @@ process-below w h = omega arith
 pub place-below : (w : ℕ) → placeOf w < linkPlaces
 place-below w = omega arith
 
--- A link fits 64 bits, whatever it is packed from.
-pub pack-below : (q n : ℕ) → packOf q n < 2 ^ 64
-pack-below q n = omega arith
+-- A link fits 64 bits, whatever it is made from.
+pub link-below : (q n : ℕ) → linkOf q n < 2 ^ 64
+link-below q n = omega arith
 
--- Unpacking after packing gives the process and the place back.
-pub process-pack : (q n : ℕ) → q < linkProcesses → n < linkPlaces → processOf (packOf q n) ≡ q
-process-pack q n hq hn = omega arith
+-- A link gives its process and its place back.
+pub process-link : (q n : ℕ) → q < linkProcesses → n < linkPlaces → processOf (linkOf q n) ≡ q
+process-link q n hq hn = omega arith
 
-pub place-pack : (q n : ℕ) → q < linkProcesses → n < linkPlaces → placeOf (packOf q n) ≡ n
-place-pack q n hq hn = omega arith
+pub place-link : (q n : ℕ) → q < linkProcesses → n < linkPlaces → placeOf (linkOf q n) ≡ n
+place-link q n hq hn = omega arith
 
--- Packing after unpacking gives the link back: every 64-bit word is exactly one pair.
-pub pack-unpack : (w : ℕ) → w < 2 ^ 64 → packOf (processOf w) (placeOf w) ≡ w
-pack-unpack w h = omega arith
+-- Every 64-bit word is the link of exactly one pair.
+pub link-back : (w : ℕ) → w < 2 ^ 64 → linkOf (processOf w) (placeOf w) ≡ w
+link-back w h = omega arith
 
 -- A link determines its process and its place.
-pub pack-injective : (q n q′ n′ : ℕ) → q < linkProcesses → n < linkPlaces → q′ < linkProcesses → n′ < linkPlaces
-    → packOf q n ≡ packOf q′ n′ → (q ≡ q′) × (n ≡ n′)
-pack-injective q n q′ n′ hq hn hq′ hn′ e = (omega arith, omega arith)
+pub link-injective : (q n q′ n′ : ℕ) → q < linkProcesses → n < linkPlaces → q′ < linkProcesses → n′ < linkPlaces
+    → linkOf q n ≡ linkOf q′ n′ → (q ≡ q′) × (n ≡ n′)
+link-injective q n q′ n′ hq hn hq′ hn′ e = (omega arith, omega arith)

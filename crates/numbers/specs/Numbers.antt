@@ -42,8 +42,8 @@ linkProcesses = 2 ^ 14
 abbrev pub linkPlaces : ℕ
 linkPlaces = 2 ^ 50
 
-abbrev pub packOf : ℕ → ℕ → ℕ
-packOf q n = q % linkProcesses * linkPlaces + n % linkPlaces
+abbrev pub linkOf : ℕ → ℕ → ℕ
+linkOf q n = q % linkProcesses * linkPlaces + n % linkPlaces
 
 abbrev pub processOf : ℕ → ℕ
 processOf w = w / linkPlaces

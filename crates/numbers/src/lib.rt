@@ -2,7 +2,8 @@
 ghost use mathlib.Core.Path.{_≡_};
 ghost use Prim.Native.Nat.{_%_, min};
 ghost use Rattle.numbers.specs.Numbers.{mostMarks, directoryWords, directoryWord, poolWords, segmentOf, offsetOf, sizeOf};
-ghost use Rattle.numbers.specs.Numbers.{packOf, processOf, placeOf, productOf, fillOf};
+ghost use Rattle.numbers.specs.Numbers.{linkOf, processOf, placeOf, productOf, fillOf};
+ghost use Rattle.numbers.specs.Cells.{oneTo, processesFit, cellsFit, cellFits, markOf, indexOf, fillAt};
 
 // A cell's number.
 pub struct Cell(pub u32);
@@ -12,6 +13,17 @@ pub struct Place(pub u64);
 
 // A process's number.
 pub struct Process(pub u32);
+
+// What a grid is opened with: its processes, its cells, and the filling rule.
+pub struct Terms {
+    pub p: u32,
+    pub m: u32,
+    pub first: u32,
+    pub step: u32,
+}
+
+// What a pool word holds: the mark of a cell, or the tombstone.
+pub type Mark = u32;
 
 // Processes at the most, and the lanes that a state has room for.
 pub const PROCESSES: u32 = 16;
@@ -28,7 +40,7 @@ pub const SEGMENTS: u32 = 17;
 pub const STEPS: u8 = 10;
 
 // What a pool word holds where no cell's mark may stand.
-pub const TOMBSTONE: u32 = 4294967295;
+pub const TOMBSTONE: Mark = 4294967295;
 
 // A link's process is one of 2^14, its place one of 2^50.
 pub const LINK_PROCESSES: u64 = 16384;
@@ -85,8 +97,8 @@ pub fn size_of(s: u32) -> u64
 }
 
 // The link of a process and a place; of either number only the bits that a link has room for.
-pub fn pack(q: Process, n: Place) -> u64
-    ensures { λ r. ⌜ r ≡ packOf (q .0) (n .0) ⌝ }
+pub fn link_of(q: Process, n: Place) -> u64
+    ensures { λ r. ⌜ r ≡ linkOf (q .0) (n .0) ⌝ }
 {
     (q.0 as u64) % LINK_PROCESSES * LINK_PLACES + n.0 % LINK_PLACES
 }
@@ -112,11 +124,59 @@ pub fn wrapping_mul(a: u32, b: u32) -> u32
     ((a as u64) * (b as u64) % 4294967296) as u32
 }
 
-// The reading that cell i holds before any write.
-pub fn fill(first: u32, step: u32, i: Cell) -> u32
-    ensures { λ r. ⌜ r ≡ fillOf first step (i .0) ⌝ }
+// The filling rule at a number.
+pub fn fill(first: u32, step: u32, n: u32) -> u32
+    ensures { λ r. ⌜ r ≡ fillOf first step n ⌝ }
 {
-    std::num::wrapping_add_u32(first, wrapping_mul(step, i.0))
+    std::num::wrapping_add_u32(first, wrapping_mul(step, n))
+}
+
+fn one_to(n: u32, most: u32) -> bool
+    ensures { λ r. ⌜ r ≡ oneTo n most ⌝ }
+{
+    if n < 1 { false } else { n <= most }
+}
+
+// Whether p is a number of processes that a grid may have,
+pub fn processes_fit(p: u32) -> bool
+    ensures { λ r. ⌜ r ≡ processesFit p ⌝ }
+{
+    one_to(p, PROCESSES)
+}
+
+// and m a number of cells.
+pub fn cells_fit(m: u32) -> bool
+    ensures { λ r. ⌜ r ≡ cellsFit m ⌝ }
+{
+    one_to(m, CELLS)
+}
+
+// Whether a cell is one of the grid's.
+pub fn cell_fits(z: Terms, i: Cell) -> bool
+    ensures { λ r. ⌜ r ≡ cellFits z i ⌝ }
+{
+    i.0 < z.m
+}
+
+// The mark that stands for a cell;
+pub fn mark_of(i: Cell) -> Mark
+    ensures { λ r. ⌜ r ≡ markOf i ⌝ }
+{
+    i.0
+}
+
+// where its reading and its link lie in their memories;
+pub fn index_of(z: Terms, i: Cell) -> usize
+    ensures { λ r. ⌜ r ≡ indexOf z i ⌝ }
+{
+    i.0 as usize
+}
+
+// and the reading that it holds before any write.
+pub fn fill_at(z: Terms, i: Cell) -> u32
+    ensures { λ r. ⌜ r ≡ fillAt z i ⌝ }
+{
+    fill(z.first, z.step, i.0)
 }
 
 // The lesser of two lengths.

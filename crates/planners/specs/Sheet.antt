@@ -5,11 +5,14 @@ use mathlib.Core.List.{List}
 use Rattle.qhs.specs.declared.Header.{Header}
 use Rattle.qhs.specs.declared.Reading.{Reading}
 use Rattle.qhs.specs.declared.Reading.the-variants as Reading
-use Rattle.qhs.specs.Qhs.{readOf}
+use Rattle.qhs.specs.Qhs.{termsOf, readOf}
+use Rattle.lanes.specs.declared.State.{State}
 use Rattle.steps.specs.Memory.{Memory}
-use Rattle.text.specs.declared.Put.the-variants as Put
-use Rattle.text.specs.Text.{refusedLine, fileRefusedLine, Placed, placed, putOf}
-use Rattle.play.specs.Play.{World, opened, filled, after}
+use Rattle.acts.specs.Worlds.{grid, World, openedWorld}
+use Rattle.byte_lists.specs.declared.Put.the-variants as Put
+use Rattle.text.specs.Text.{refusedLine, fileRefusedLine}
+use Rattle.byte_lists.specs.Bytes.{Placed, placed, putOf}
+use Rattle.play.specs.Play.{filled, after}
 use Rattle.planners_text.specs.declared.Wrote.{Wrote}
 use Rattle.planners_text.specs.declared.Wrote.the-variants as Wrote
 use Rattle.planners_text.specs.PlannersText.{Page, writeOf}
@@ -22,12 +25,12 @@ shownAs out (Wrote.Refused r) = putOf out 0 (refusedLine r)
 abbrev pub shown : Page → Placed
 shown p = shownAs (p .out) (p .answer)
 
-abbrev pub shownOf : World → List ℕ → Placed
+abbrev pub shownOf : World State → List ℕ → Placed
 shownOf w out = shown (writeOf (w .state) (w .memory) out)
 
 -- All records are played as the schedule program plays them.
 unfoldable pub left : List ℕ → Header → ℕ → Memory → List ℕ → Placed
-left bytes h n mem out = shownOf (after bytes (opened h mem) n) out
+left bytes h n mem out = shownOf (after bytes (openedWorld grid (termsOf h) mem) n) out
 
 -- A refused file prints only `file refused R`.
 abbrev pub sheetAs : List ℕ → List ℕ → Reading → Placed

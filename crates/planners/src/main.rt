@@ -1,18 +1,20 @@
 // The planners' program: one schedule file from standard input, the text of the grid that it leaves to standard output.
 mod sheet;
 
+use byte_lists::Put;
 use libc::STDIN_FILENO;
 use libc::STDOUT_FILENO;
-use text::Put;
+use play::CELL_WORDS;
 
-// One byte more than the longest file, so that a longer one is seen to be.
-const INPUT: usize = 65537;
+// The heading's length, a line's at the most, and the room that the longest text takes: the heading, and a line for each cell.
+const HEADING: usize = 14;
 
-// The room that the longest text takes: the header's 14 bytes, and 2,040 lines of 17.
-const OUTPUT: usize = 34694;
+const LINE: usize = 17;
+
+const OUTPUT: usize = HEADING + LINE * CELL_WORDS;
 
 fn main() {
-    let mut file = [0u8; INPUT];
+    let mut file = [0u8; qhs::INPUT];
     let mut out = [0u8; OUTPUT];
     let n = io::read_full(STDIN_FILENO, &mut file);
     let put = sheet::sheet(&file[..n], &mut out);

@@ -1,10 +1,12 @@
 // The planners' program without its input and output: from a file's bytes to the bytes that it prints.
 ghost use mathlib.Core.Path.{_≡_};
 ghost use Rattle.steps.specs.Memory.{memory};
-ghost use Rattle.text.specs.Text.{placed};
+ghost use Rattle.byte_lists.specs.Bytes.{placed};
 ghost use Rattle.play.specs.Play.{filled};
 ghost use Rattle.planners.specs.Sheet.{left, sheetOf};
 ghost use Rattle.planners.specs.Inner.{Small};
+use byte_lists::Put;
+use numbers::Mark;
 use planners_text::Wrote;
 use play::CELL_WORDS;
 use play::DIRECTORY_WORDS;
@@ -12,7 +14,6 @@ use play::POOL_WORDS;
 use play::ends;
 use qhs::Header;
 use qhs::Reading;
-use text::Put;
 
 // Plays n records on a grid in the lent memories, and writes its text.
 fn run(
@@ -22,7 +23,7 @@ fn run(
     readings: &mut [u32],
     links: &mut [u64],
     directory: &mut [u32],
-    pool: &mut [u32],
+    pool: &mut [Mark],
     out: &mut [u8],
 ) -> Put
     ensures { λ r. ⌜ placed r (now (out .exit)) ≡ left (now (bytes .entry)) h n (memory (now (readings .entry)) (now (links .entry)) (now (directory .entry)) (now (pool .entry))) (now (out .entry)) ⌝ }

@@ -6,13 +6,14 @@ use mathlib.Core.Bool.{Bool, true, false}
 use mathlib.Core.List.{List, [], _++_}
 use native.Mathlib.Omega.{arith}
 use lib.ListN.{length, length-append}
+use Rattle.lists.specs.Lists.{gathered}
 use Rattle.lanes.specs.declared.State.{State}
 use Rattle.quiet.specs.declared.Quarter.{Quarter}
 use Rattle.quiet.specs.declared.Quarter.the-variants as Quarter
 use Rattle.steps.specs.Memory.{Memory}
-use Rattle.text.specs.declared.Put.{Put}
-use Rattle.text.specs.Text.{word, decimal, placed, putOf, endOf}
-use Rattle.text.specs.Places.{put-end, splice-none, splice-length, splice-more}
+use Rattle.byte_lists.specs.declared.Put.{Put}
+use Rattle.byte_lists.specs.Bytes.{word, decimal, placed, putOf, endOf}
+use Rattle.byte_lists.specs.Places.{put-end, splice-none, splice-length, splice-more}
 use Rattle.planners_text.specs.PlannersText.{crlf, lineOf, lineAs, quarterAt, linesBelow}
 use Rattle.planners_text.specs.Inner.{Laid}
 use Rattle.planners_text.proofs.SizeLaws.{lines-more}
@@ -37,7 +38,8 @@ laid-then out o o′ xs ys at a b h l k =
     }
 
 -- a cell's line from its four parts
-pub laid-line : (out oa ob oc od : List ℕ) (at i v a b c d : ℕ) (pa pb pc pd : Put) → at + length (lineOf i v) ≤ length out → placed pa oa ≡ putOf out at (decimal i)
+pub laid-line : (out oa ob oc od : List ℕ) (at i v a b c d : ℕ) (pa pb pc pd : Put) → at + length (lineOf i v) ≤ length out
+    → placed pa oa ≡ putOf out at (decimal i)
     → a ≡ endOf pa → placed pb ob ≡ putOf oa a (word ",") → b ≡ endOf pb → placed pc oc ≡ putOf ob b (decimal v) → c ≡ endOf pc
     → placed pd od ≡ putOf oc c crlf → d ≡ endOf pd → Laid out at (lineOf i v) od d
 laid-line out oa ob oc od at i v a b c d pa pb pc pd room ea fa eb fb ec fc ed fd =
@@ -73,14 +75,14 @@ module _ (out : List ℕ) (at i : ℕ) (q : Quarter) where
 
 -- the cells below i have their lines
 pub record Laying (s : State) (mem : Memory) (start : ℕ) (out₀ out : List ℕ) (at i : ℕ) : Type 0 where
-  pub low : i ≤ s .m
+  pub low : i ≤ s .terms .m
   pub laid : Laid out₀ start (linesBelow s mem i) out at
-  pub room : start + length (linesBelow s mem (s .m)) ≤ length out₀
+  pub room : start + length (linesBelow s mem (s .terms .m)) ≤ length out₀
   pub sized : length out ≡ length out₀
 
-pub laying-start : (s : State) (mem : Memory) (start : ℕ) (out : List ℕ) → start + length (linesBelow s mem (s .m)) ≤ length out
+pub laying-start : (s : State) (mem : Memory) (start : ℕ) (out : List ℕ) → start + length (linesBelow s mem (s .terms .m)) ≤ length out
     → Laying s mem start out out start 0
-unfolding linesBelow
+unfolding linesBelow gathered
 laying-start s mem start out h = record { low = omega arith; laid = laid-none out start; room = h; sized = refl }
 
 -- more lines are no shorter
@@ -95,13 +97,13 @@ lines-most : (s : State) (mem : Memory) (i n : ℕ) → i ≤ n → length (line
 lines-most s mem i n h = let e : i + (n - i) ≡ n = omega arith in rw e at (lines-rise s mem i (n - i))
 
 module _ (s : State) (mem : Memory) (start : ℕ) (out₀ out : List ℕ) (at i : ℕ) (g : Laying s mem start out₀ out at i) where
-  module _ (h : i < s .m) (q : Quarter) (e : q ≡ quarterAt s mem i) where
+  module _ (h : i < s .terms .m) (q : Quarter) (e : q ≡ quarterAt s mem i) where
     line-is : lineAs i q ≡ lineAs i (quarterAt s mem i)
     line-is = rw e
 
     fits : start + (length (linesBelow s mem i) + length (lineAs i q)) ≤ length out₀
     fits =
-        let most = lines-most s mem (i + 1) (s .m) (omega arith) in
+        let most = lines-most s mem (i + 1) (s .terms .m) (omega arith) in
         let more : length (linesBelow s mem (i + 1)) ≡ length (linesBelow s mem i) + length (lineAs i q) =
         ap length (lines-more s mem i) ∙ rw (← line-is) (length-append (linesBelow s mem i) (lineAs i q)) in
         omega (arith, g .room)
@@ -121,5 +123,5 @@ module _ (s : State) (mem : Memory) (start : ℕ) (out₀ out : List ℕ) (at i 
           sized = laid-length out out′ (lineAs i q) at at′ laying-room l ∙ g .sized;
         }
 
-  pub laying-end : s .m ≤ i → Laid out₀ start (linesBelow s mem (s .m)) out at
-  laying-end h = let e : i ≡ s .m = omega (arith, g .low) in rw e at (g .laid)
+  pub laying-end : s .terms .m ≤ i → Laid out₀ start (linesBelow s mem (s .terms .m)) out at
+  laying-end h = let e : i ≡ s .terms .m = omega (arith, g .low) in rw e at (g .laid)

@@ -8,14 +8,15 @@ use native.Mathlib.Omega.{arith}
 use native.Mathlib.Numerals.{add-one}
 use lib.ListN.{length, length-append}
 use borrow.Author.Tests.{not-true, not-false}
+use Rattle.lists.specs.Lists.{gathered}
 use Rattle.logic.specs.Below.{below}
 use Rattle.logic.specs.BelowLaws.{below-fails, below-more}
 use Rattle.lanes.specs.declared.State.{State}
 use Rattle.quiet.specs.declared.Quarter.{Quarter}
 use Rattle.quiet.specs.declared.Quarter.the-variants as Quarter
 use Rattle.steps.specs.Memory.{Memory}
-use Rattle.text.specs.Text.{word, decimal}
-use Rattle.text.specs.Laws.{decimal-low, decimal-short, decimal-long, step-length}
+use Rattle.byte_lists.specs.Bytes.{word, decimal}
+use Rattle.byte_lists.specs.Decimals.{decimal-low, decimal-short, decimal-long, step-length}
 use Rattle.planners_text.specs.declared.cells.Measured.{Measured}
 use Rattle.planners_text.specs.declared.cells.Measured.the-variants as Measured
 use Rattle.planners_text.specs.PlannersText.{crlf, header, lineOf, lineAs, quarterAt, linesBelow, textOf, inside, wordsFit}
@@ -58,26 +59,26 @@ long-written i q v x y b e h k l =
 
 -- the cells below i were looked at
 pub record Measuring (s : State) (mem : Memory) (total i : ℕ) : Type 0 where
-  pub low : i ≤ s .m
+  pub low : i ≤ s .terms .m
   pub fits : below i (λ (j : ℕ). inside (quarterAt s mem j)) ≡ true
   pub is : total ≡ 14 + length (linesBelow s mem i)
   pub few : total ≤ 14 + 23 * i
 
 pub measuring-start : (s : State) (mem : Memory) → Measuring s mem 14 0
-unfolding below linesBelow
+unfolding below linesBelow gathered
 measuring-start s mem = record { low = omega arith; fits = refl; is = refl; few = omega arith }
 
 -- one line more
 pub lines-more : (s : State) (mem : Memory) (i : ℕ) → linesBelow s mem (i + 1) ≡ linesBelow s mem i ++ lineAs i (quarterAt s mem i)
-unfolding linesBelow
+unfolding linesBelow gathered
 lines-more s mem i = rw (add-one i)
 
 module _ (s : State) (mem : Memory) (total i : ℕ) (g : Measuring s mem total i) where
-  module _ (h : i < s .m) (q : Quarter) (e : q ≡ quarterAt s mem i) (b : Bool) (k : b ≡ inside q) where
+  module _ (h : i < s .terms .m) (q : Quarter) (e : q ≡ quarterAt s mem i) (b : Bool) (k : b ≡ inside q) where
     pub measuring-outside : not b ≡ true → Measured.Outside ≡ measuredOf s mem
     measuring-outside x =
         let out : inside (quarterAt s mem i) ≡ false = ap inside (sym e) ∙ sym k ∙ not-true b x in
-        let none : wordsFit s mem ≡ false = below-fails (s .m) i (λ (j : ℕ). inside (quarterAt s mem j)) h out in
+        let none : wordsFit s mem ≡ false = below-fails (s .terms .m) i (λ (j : ℕ). inside (quarterAt s mem j)) h out in
         rw none
 
     pub measuring-next : not b ≡ false → (n : ℕ) → Long 23 (lineAs i q) n → Measuring s mem (total + n) (i + 1)
@@ -94,11 +95,11 @@ module _ (s : State) (mem : Memory) (total i : ℕ) (g : Measuring s mem total i
           few = omega (arith, g .few, long .few);
         }
 
-  pub measuring-end : s .m ≤ i → Measured.Bytes total ≡ measuredOf s mem
+  pub measuring-end : s .terms .m ≤ i → Measured.Bytes total ≡ measuredOf s mem
   unfolding textOf
   measuring-end h =
-      let at : i ≡ s .m = omega (arith, g .low) in
+      let at : i ≡ s .terms .m = omega (arith, g .low) in
       let all : wordsFit s mem ≡ true = ap (λ (n : ℕ). below n (λ (j : ℕ). inside (quarterAt s mem j))) (sym at) ∙ g .fits in
       let long : total ≡ length (textOf s mem) =
-      g .is ∙ ap (λ (n : ℕ). 14 + length (linesBelow s mem n)) at ∙ sym (length-append header (linesBelow s mem (s .m))) in
+      g .is ∙ ap (λ (n : ℕ). 14 + length (linesBelow s mem n)) at ∙ sym (length-append header (linesBelow s mem (s .terms .m))) in
       rw (all, long)

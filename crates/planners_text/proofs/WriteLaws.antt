@@ -14,8 +14,8 @@ use Rattle.steps.specs.Memory.{Memory}
 use Rattle.acts.specs.Calls.{lengthsFit}
 use Rattle.quiet.specs.declared.Scan.{Scan}
 use Rattle.quiet.specs.Quiet.{unfit, atWork, scanOf}
-use Rattle.text.specs.declared.Put.{Put}
-use Rattle.text.specs.Text.{placed, putOf, endOf}
+use Rattle.byte_lists.specs.declared.Put.{Put}
+use Rattle.byte_lists.specs.Bytes.{placed, putOf, endOf}
 use Rattle.planners_text.specs.declared.Wrote.{Wrote}
 use Rattle.planners_text.specs.declared.Wrote.the-variants as Wrote
 use Rattle.planners_text.specs.declared.cells.Measured.{Measured}
@@ -29,23 +29,23 @@ module _ (s : State) (mem : Memory) (n : ℕ) (out : List ℕ) (e : n ≡ length
   put-none h = let short : length out < length (textOf s mem) = omega arith in simp (lt-ltb _ _ short)
 
   module _ (h : n ≤ length out) (p : Put) (o : List ℕ) (start : ℕ) (f : placed p o ≡ putOf out 0 header) (g : start ≡ endOf p) where
-    text-length : length (textOf s mem) ≡ 14 + length (linesBelow s mem (s .m))
+    text-length : length (textOf s mem) ≡ 14 + length (linesBelow s mem (s .terms .m))
     unfolding textOf
-    text-length = length-append header (linesBelow s mem (s .m))
+    text-length = length-append header (linesBelow s mem (s .terms .m))
 
     header-laid : Laid out 0 header o start
     header-laid = laid-put out o header 0 start p (omega (arith, text-length)) f g
 
     -- there is room for the lines
-    pub lines-room : start + length (linesBelow s mem (s .m)) ≤ length o
+    pub lines-room : start + length (linesBelow s mem (s .terms .m)) ≤ length o
     lines-room =
         omega (arith, text-length, header-laid .ends, laid-length out o header 0 start (omega (arith, text-length)) header-laid)
 
-    pub put-all : (o′ : List ℕ) (end : ℕ) → Laid o start (linesBelow s mem (s .m)) o′ end → page (Wrote.Bytes end) o′ ≡ putText s mem out
+    pub put-all : (o′ : List ℕ) (end : ℕ) → Laid o start (linesBelow s mem (s .terms .m)) o′ end → page (Wrote.Bytes end) o′ ≡ putText s mem out
     unfolding textOf
     put-all o′ end l =
         let all : Laid out 0 (textOf s mem) o′ end =
-        laid-then out o o′ header (linesBelow s mem (s .m)) 0 start end (omega (arith, text-length)) header-laid l in
+        laid-then out o o′ header (linesBelow s mem (s .terms .m)) 0 start end (omega (arith, text-length)) header-laid l in
         let fits : length (textOf s mem) ≤ length out = omega arith in
         let long : end ≡ length (textOf s mem) = omega (arith, all .ends) in
         simp (le-ltb _ _ fits) (rw (long, all .shows))
@@ -64,16 +64,16 @@ module _ (s : State) (mem : Memory) (out : List ℕ) (v : Scan) (e : v ≡ scanO
   unfolding writeOf
   write-9 k = let x : unfit (scanOf s) ≡ true = ap unfit (sym e) ∙ sym f ∙ k in simp x
 
-  module _ (fine : u ≡ false) (b : Bool) (lent : b ≡ lengthsFit (s .p) (s .m) mem) where
+  module _ (fine : u ≡ false) (b : Bool) (lent : b ≡ lengthsFit (s .terms) mem) where
     fit : unfit (scanOf s) ≡ false
     fit = ap unfit (sym e) ∙ sym f ∙ fine
 
     pub write-8 : not b ≡ true → page (Wrote.Refused Refusal.OtherLengths) out ≡ writeOf s mem out
     unfolding writeOf
-    write-8 k = let x : not (lengthsFit (s .p) (s .m) mem) ≡ true = rw (← lent) k in simp (fit, x)
+    write-8 k = let x : not (lengthsFit (s .terms) mem) ≡ true = rw (← lent) k in simp (fit, x)
 
     module _ (right : not b ≡ false) (w : Bool) (g : w ≡ atWork v) where
-      lengths : not (lengthsFit (s .p) (s .m) mem) ≡ false
+      lengths : not (lengthsFit (s .terms) mem) ≡ false
       lengths = rw (← lent) right
 
       pub write-10 : w ≡ true → page (Wrote.Refused Refusal.AtWork) out ≡ writeOf s mem out

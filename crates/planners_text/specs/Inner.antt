@@ -7,7 +7,7 @@ use lib.ListN.{length}
 use Rattle.logic.specs.Pick.{pick}
 use Rattle.lanes.specs.declared.State.{State}
 use Rattle.steps.specs.Memory.{Memory}
-use Rattle.text.specs.Text.{splice}
+use Rattle.byte_lists.specs.Bytes.{splice}
 use Rattle.planners_text.specs.declared.cells.Measured.{Measured}
 use Rattle.planners_text.specs.declared.cells.Measured.the-variants as Measured
 use Rattle.planners_text.specs.PlannersText.{textOf, wordsFit}

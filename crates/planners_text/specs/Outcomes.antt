@@ -15,8 +15,8 @@ use Rattle.refusals.specs.declared.Refusal.{Refusal}
 use Rattle.refusals.specs.declared.Refusal.the-variants as Refusal
 use Rattle.lanes.specs.declared.State.{State}
 use Rattle.steps.specs.Memory.{Memory}
-use Rattle.text.specs.Text.{splice}
-use Rattle.text.specs.Places.{splice-length}
+use Rattle.byte_lists.specs.Bytes.{splice}
+use Rattle.byte_lists.specs.Places.{splice-length}
 use Rattle.planners_text.specs.declared.Wrote.{Wrote}
 use Rattle.planners_text.specs.declared.Wrote.the-variants as Wrote
 use Rattle.planners_text.specs.PlannersText.{textOf, Page, page, putText, textRefusals, writeOf}
@@ -66,7 +66,11 @@ put-fair s mem out = by (ltb (length out) (length (textOf s mem))) refl
         (pick b (page (Wrote.Refused Refusal.NoRoom) out) (page (Wrote.Bytes (length (textOf s mem))) (splice out 0 (textOf s mem))))
     by true e = refused-fair s mem out Refusal.NoRoom
     by false e = (
-      λ n o h. record { length-is = bytes-are n (length (textOf s mem)) (ap (λ (p : Page). p .answer) h); room = ltb-false (length out) (length (textOf s mem)) e; is = ap (λ (p : Page). p .out) h },
+      λ n o h. record {
+        length-is = bytes-are n (length (textOf s mem)) (ap (λ (p : Page). p .answer) h);
+        room = ltb-false (length out) (length (textOf s mem)) e;
+        is = ap (λ (p : Page). p .out) h;
+      },
       λ f o h. apart (length (textOf s mem)) f (sym (ap (λ (p : Page). p .answer) h)),
     )
 

@@ -1,18 +1,20 @@
 -- A grid written out as RFC 4180 text into a lent buffer: document 02, W1.
 -- Assumes nothing.
-use Prim.Native.Nat.{ℕ, zero, suc}
+use Prim.Native.Nat.{ℕ}
 use mathlib.Core.Bool.{Bool, true, false, not}
 use mathlib.Core.List.{List, [], _∷_, _++_}
 use lib.Dec.{ltb}
 use lib.ListN.{length}
+use Rattle.lists.specs.Lists.{gathered}
 use Rattle.logic.specs.Below.{below}
 use Rattle.refusals.specs.Orders.{Rule, _gives_, orders}
 use Rattle.logic.specs.Pick.{pick}
 use Rattle.refusals.specs.declared.Refusal.the-variants as Refusal
+use Rattle.numbers.specs.Cells.{cellAt}
 use Rattle.lanes.specs.declared.State.{State}
 use Rattle.steps.specs.Memory.{Memory}
 use Rattle.acts.specs.Calls.{lengthsFit}
-use Rattle.text.specs.Text.{word, decimal, splice}
+use Rattle.byte_lists.specs.Bytes.{word, decimal, splice}
 use Rattle.quiet.specs.declared.Quarter.{Quarter}
 use Rattle.quiet.specs.declared.Quarter.the-variants as Quarter
 use Rattle.quiet.specs.Quiet.{readingAt, unfit, atWork, scanOf}
@@ -37,15 +39,14 @@ lineAs i Quarter.Outside = []
 lineAs i (Quarter.Read v b) = pick b (lineOf i v) []
 
 abbrev pub quarterAt : State → Memory → ℕ → Quarter
-quarterAt s mem i = readingAt s (record { 0 = i }) mem
+quarterAt s mem i = readingAt s (cellAt (s .terms) i) mem
 
 -- The lines of the cells below n, in rising order.
 unfoldable pub linesBelow : State → Memory → ℕ → List ℕ
-linesBelow s mem zero = []
-linesBelow s mem (suc n) = linesBelow s mem n ++ lineAs n (quarterAt s mem n)
+linesBelow s mem n = gathered n (λ (i : ℕ). lineAs i (quarterAt s mem i))
 
 unfoldable pub textOf : State → Memory → List ℕ
-textOf s mem = header ++ linesBelow s mem (s .m)
+textOf s mem = header ++ linesBelow s mem (s .terms .m)
 
 -- 9 (word): a word of some cell's check lies outside its memory.
 abbrev pub inside : Quarter → Bool
@@ -53,7 +54,7 @@ inside Quarter.Outside = false
 inside (Quarter.Read v b) = true
 
 abbrev pub wordsFit : State → Memory → Bool
-wordsFit s mem = below (s .m) (λ (i : ℕ). inside (quarterAt s mem i))
+wordsFit s mem = below (s .terms .m) (λ (i : ℕ). inside (quarterAt s mem i))
 
 -- What writing determines: the answer and the buffer. The state and the memories are only read.
 pub record Page : Type 0 where
@@ -73,7 +74,7 @@ putText s mem out =
 -- Refusals: 9 (state), 8, 10, 9 (word), then 17.
 abbrev pub textRefusals : State → Memory → List Rule
 textRefusals s mem =
-    unfit (scanOf s) gives Refusal.OutOfRange ∷ not (lengthsFit (s .p) (s .m) mem) gives Refusal.OtherLengths
+    unfit (scanOf s) gives Refusal.OutOfRange ∷ not (lengthsFit (s .terms) mem) gives Refusal.OtherLengths
     ∷ atWork (scanOf s) gives Refusal.AtWork ∷ not (wordsFit s mem) gives Refusal.OutOfRange ∷ []
 
 unfoldable pub writeOf : State → Memory → List ℕ → Page

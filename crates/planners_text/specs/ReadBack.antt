@@ -9,15 +9,17 @@ use native.Mathlib.Omega.{arith}
 use lib.Dec.{ltb}
 use lib.ListN.{length}
 use borrow.Author.Tests.{ltb-true, ltb-false, le-leb, ne-eqb}
+use Rattle.lists.specs.Lists.{gathered}
 use Rattle.lanes.specs.declared.State.{State}
 use Rattle.quiet.specs.declared.Quarter.{Quarter}
 use Rattle.quiet.specs.declared.Quarter.the-variants as Quarter
 use Rattle.steps.specs.Memory.{Memory}
-use Rattle.text.specs.Text.{word, digit, decimal}
-use Rattle.text.specs.Laws.{decimal-low, decimal-step, decimal-long, decimal-read}
+use Rattle.byte_lists.specs.Bytes.{word, digit, decimal}
+use Rattle.byte_lists.specs.Decimals.{decimal-low, decimal-step, decimal-long, decimal-read}
 use Rattle.planners_text.specs.PlannersText.{crlf, header, lineOf, lineAs, quarterAt, linesBelow, textOf}
 use Rattle.planners_text.specs.Rfc4180.{textData, Record, Reader, reader, plain, next, run, finish, recordsIn}
-use Rattle.planners_text.specs.Sheet.{Row, row, all, isDigit, isNumber, rowIn, joined, rowsIn, headed, sheetAs, sheetIn, writtenAs, writtenBelow, heading, writtenCells}
+use Rattle.planners_text.specs.Sheet.{Row, row, all, isDigit, isNumber, rowIn, joined, rowsIn, headed, sheetAs}
+use Rattle.planners_text.specs.Sheet.{sheetIn, writtenAs, writtenBelow, heading, writtenCells}
 use Rattle.planners_text.specs.Claims.{ReadsBack}
 use Rattle.planners_text.specs.Outcomes.{text-is}
 
@@ -101,7 +103,8 @@ run-line i v records =
     ∙ run-append (reader plain [] (decimal i ∷ []) records) (decimal v) crlf
     ∙ ap (λ (r : Reader). run r crlf) (run-plain (decimal v) [] (decimal i ∷ []) records (all-decimal textData digit-is-text v))
 
-run-as : (i : ℕ) (q : Quarter) (records : List Record) → run (reader plain [] [] records) (lineAs i q) ≡ reader plain [] [] (records ++ map fieldsAt (writtenAs i q))
+run-as : (i : ℕ) (q : Quarter) (records : List Record)
+    → run (reader plain [] [] records) (lineAs i q) ≡ reader plain [] [] (records ++ map fieldsAt (writtenAs i q))
 run-as i Quarter.Outside records = rw (append-nil records)
 run-as i (Quarter.Read v true) records = run-line i v records
 run-as i (Quarter.Read v false) records = rw (append-nil records)
@@ -112,7 +115,7 @@ map-append (x ∷ xs) ys = ap (λ (l : List Record). fieldsAt x ∷ l) (map-appe
 
 run-lines : (s : State) (mem : Memory) (n : ℕ) (records : List Record)
     → run (reader plain [] [] records) (linesBelow s mem n) ≡ reader plain [] [] (records ++ map fieldsAt (writtenBelow s mem n))
-unfolding linesBelow writtenBelow
+unfolding linesBelow writtenBelow gathered
 run-lines s mem zero records = rw (append-nil records)
 run-lines s mem (suc n) records =
     let here : List Row = writtenAs n (quarterAt s mem n) in
@@ -126,11 +129,11 @@ run-lines s mem (suc n) records =
 
 -- ---- the whole text
 
-records-are : (s : State) (mem : Memory) → recordsIn (textOf s mem) ≡ some (heading ∷ map fieldsAt (writtenBelow s mem (s .m)))
+records-are : (s : State) (mem : Memory) → recordsIn (textOf s mem) ≡ some (heading ∷ map fieldsAt (writtenBelow s mem (s .terms .m)))
 unfolding recordsIn textOf
 records-are s mem =
     ap finish
-    (run-append (reader plain [] [] []) header (linesBelow s mem (s .m)) ∙ run-lines s mem (s .m) (heading ∷ []))
+    (run-append (reader plain [] [] []) header (linesBelow s mem (s .terms .m)) ∙ run-lines s mem (s .terms .m) (heading ∷ []))
 
 row-is : (r : Row) → rowIn (fieldsAt r) ≡ some r
 row-is r = simp (decimal-number (r .cell), decimal-number (r .reading), decimal-read (r .cell), decimal-read (r .reading))
@@ -144,7 +147,7 @@ rows-are (r ∷ rows) =
 pub read-back : (s : State) (mem : Memory) → sheetIn (textOf s mem) ≡ some (writtenCells s mem)
 read-back s mem =
     ap sheetAs (records-are s mem)
-    ∙ ap (λ (o : Option (List Row)). headed heading o) (rows-are (writtenBelow s mem (s .m)))
+    ∙ ap (λ (o : Option (List Row)). headed heading o) (rows-are (writtenBelow s mem (s .terms .m)))
 
 pub the-lines-are-the-written-cells : ReadsBack
 the-lines-are-the-written-cells s mem out n o e = ap sheetIn (text-is s mem out n o e) ∙ read-back s mem

@@ -4,7 +4,7 @@ use Prim.Native.Nat.{ℕ}
 use mathlib.Core.Path.{_≡_, refl}
 use mathlib.Core.List.{List, [], _∷_, _++_}
 use mathlib.Core.Option.{Option, none, some}
-use Rattle.text.specs.Text.{word}
+use Rattle.byte_lists.specs.Bytes.{word}
 use Rattle.planners_text.specs.PlannersText.{crlf}
 use Rattle.planners_text.specs.Rfc4180.{Record, cr, lf, quote, recordsIn}
 

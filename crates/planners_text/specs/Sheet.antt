@@ -1,17 +1,18 @@
 -- A sheet read from text: a heading, and rows of a cell's number and its reading. What the planners' text is to give back.
 -- Assumes nothing.
-use Prim.Native.Nat.{ℕ, zero, suc}
+use Prim.Native.Nat.{ℕ}
 use mathlib.Core.Bool.{Bool, true, false, _&&_}
-use mathlib.Core.List.{List, [], _∷_, _++_}
+use mathlib.Core.List.{List, [], _∷_}
 use mathlib.Core.Option.{Option, none, some}
 use lib.Dec.{leb}
+use Rattle.lists.specs.Lists.{gathered}
 use Rattle.logic.specs.Pick.{pick}
 use Rattle.lanes.specs.declared.State.{State}
 use Rattle.quiet.specs.declared.Quarter.{Quarter}
 use Rattle.quiet.specs.declared.Quarter.the-variants as Quarter
 use Rattle.steps.specs.Memory.{Memory}
-use Rattle.text.specs.Text.{word}
-use Rattle.text.specs.Laws.{readOnto}
+use Rattle.byte_lists.specs.Bytes.{word}
+use Rattle.byte_lists.specs.Decimals.{readOnto}
 use Rattle.planners_text.specs.PlannersText.{quarterAt}
 use Rattle.planners_text.specs.Rfc4180.{Record, recordsIn}
 
@@ -76,11 +77,10 @@ writtenAs i Quarter.Outside = []
 writtenAs i (Quarter.Read v b) = pick b (row i v ∷ []) []
 
 unfoldable pub writtenBelow : State → Memory → ℕ → List Row
-writtenBelow s mem zero = []
-writtenBelow s mem (suc n) = writtenBelow s mem n ++ writtenAs n (quarterAt s mem n)
+writtenBelow s mem n = gathered n (λ (i : ℕ). writtenAs i (quarterAt s mem i))
 
 abbrev pub heading : Record
 heading = word "quarter" ∷ (word "load" ∷ [])
 
 abbrev pub writtenCells : State → Memory → Sheet
-writtenCells s mem = sheet heading (writtenBelow s mem (s .m))
+writtenCells s mem = sheet heading (writtenBelow s mem (s .terms .m))

@@ -3,11 +3,12 @@ ghost use mathlib.Core.Path.{_≡_};
 ghost use Prim.Native.Nat.{_+_, _≤_};
 ghost use lib.ListN.{length};
 ghost use Rattle.steps.specs.Memory.{memory};
-ghost use Rattle.text.specs.Text.{decimal};
+ghost use Rattle.byte_lists.specs.Bytes.{decimal};
 ghost use Rattle.planners_text.specs.PlannersText.{lineOf, lineAs, linesBelow, inside};
 ghost use Rattle.planners_text.specs.Inner.{Long, Laid, measuredOf};
 use lanes::State;
 use numbers::Cell;
+use numbers::Mark;
 use quiet::Quarter;
 
 // The whole text's length, or that a word of some cell's check lies outside.
@@ -53,13 +54,13 @@ pub fn measure(
     readings: &[u32],
     links: &[u64],
     directory: &[u32],
-    pool: &[u32],
+    pool: &[Mark],
 ) -> Measured
     ensures { λ r. ⌜ r ≡ measuredOf s (memory (now (readings .entry)) (now (links .entry)) (now (directory .entry)) (now (pool .entry))) ⌝ }
 {
     let mut total: usize = 14;
     let mut i: u32 = 0;
-    while i < s.m {
+    while i < s.terms.m {
         let q = quiet::reading_at(s, Cell(i), readings, links, directory, pool);
         if !inside(q) {
             return Measured::Outside;
@@ -74,10 +75,10 @@ fn put_cell(out: &mut [u8], at: usize, i: u32, v: u32) -> usize
     requires { ⌜ at + length (lineOf i v) ≤ length (now out) ⌝ }
     ensures { λ r. ⌜ Laid (now (out .entry)) at (lineOf i v) (now (out .exit)) r ⌝ }
 {
-    let a = text::end_of(text::put_decimal(out, at, i as u64));
-    let b = text::end_of(text::put_bytes(out, a, b","));
-    let c = text::end_of(text::put_decimal(out, b, v as u64));
-    text::end_of(text::put_bytes(out, c, b"\r\n"))
+    let a = byte_lists::end_of(byte_lists::put_decimal(out, at, i as u64));
+    let b = byte_lists::end_of(byte_lists::put_bytes(out, a, b","));
+    let c = byte_lists::end_of(byte_lists::put_decimal(out, b, v as u64));
+    byte_lists::end_of(byte_lists::put_bytes(out, c, b"\r\n"))
 }
 
 fn put_as(out: &mut [u8], at: usize, i: u32, q: Quarter) -> usize
@@ -96,16 +97,16 @@ pub fn put_lines(
     readings: &[u32],
     links: &[u64],
     directory: &[u32],
-    pool: &[u32],
+    pool: &[Mark],
     start: usize,
     out: &mut [u8],
 ) -> usize
-    requires { ⌜ start + length (linesBelow s (memory (now readings) (now links) (now directory) (now pool)) (s .m)) ≤ length (now out) ⌝ }
-    ensures { λ r. ⌜ Laid (now (out .entry)) start (linesBelow s (memory (now (readings .entry)) (now (links .entry)) (now (directory .entry)) (now (pool .entry))) (s .m)) (now (out .exit)) r ⌝ }
+    requires { ⌜ start + length (linesBelow s (memory (now readings) (now links) (now directory) (now pool)) (s .terms .m)) ≤ length (now out) ⌝ }
+    ensures { λ r. ⌜ Laid (now (out .entry)) start (linesBelow s (memory (now (readings .entry)) (now (links .entry)) (now (directory .entry)) (now (pool .entry))) (s .terms .m)) (now (out .exit)) r ⌝ }
 {
     let mut at = start;
     let mut i: u32 = 0;
-    while i < s.m {
+    while i < s.terms.m {
         let q = quiet::reading_at(s, Cell(i), readings, links, directory, pool);
         at = put_as(out, at, i, q);
         i = i + 1;

@@ -9,6 +9,7 @@ mod cells;
 use acts::opens;
 use cells::Measured;
 use lanes::State;
+use numbers::Mark;
 use refusals::Refusal;
 
 // How many bytes were written, or why none was.
@@ -23,7 +24,7 @@ fn put_text(
     readings: &[u32],
     links: &[u64],
     directory: &[u32],
-    pool: &[u32],
+    pool: &[Mark],
     n: usize,
     out: &mut [u8],
 ) -> Wrote
@@ -33,7 +34,7 @@ fn put_text(
     if out.len() < n {
         return Wrote::Refused(Refusal::NoRoom);
     }
-    let start = text::end_of(text::put_bytes(out, 0, b"quarter,load\r\n"));
+    let start = byte_lists::end_of(byte_lists::put_bytes(out, 0, b"quarter,load\r\n"));
     let end = cells::put_lines(s, readings, links, directory, pool, start, out);
     Wrote::Bytes(end)
 }
@@ -45,7 +46,7 @@ pub fn write_text(
     readings: &[u32],
     links: &[u64],
     directory: &[u32],
-    pool: &[u32],
+    pool: &[Mark],
     out: &mut [u8],
 ) -> Wrote
     ensures { λ r. ⌜ page r (now (out .exit)) ≡ writeOf s (memory (now (readings .entry)) (now (links .entry)) (now (directory .entry)) (now (pool .entry))) (now (out .entry)) ⌝ }
@@ -54,7 +55,7 @@ pub fn write_text(
     if quiet::unfit(shown) {
         return Wrote::Refused(Refusal::OutOfRange);
     }
-    if !opens::lengths_fit(s.p, s.m, readings, links, directory, pool) {
+    if !opens::lengths_fit(s.terms, readings, links, directory, pool) {
         return Wrote::Refused(Refusal::OtherLengths);
     }
     if quiet::at_work(shown) {

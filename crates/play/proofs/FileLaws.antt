@@ -13,9 +13,11 @@ use Rattle.qhs.specs.declared.Reading.the-variants as Reading
 use Rattle.qhs.specs.Qhs.{readOf}
 use Rattle.qhs.specs.Laws.{schedule}
 use Rattle.steps.specs.Memory.{Memory}
-use Rattle.text.specs.declared.Put.the-variants as Put
-use Rattle.text.specs.Text.{fileRefusedLine, Placed, placed, putOf}
-use Rattle.text.specs.Places.{put-fits, file-refused-short}
+use Rattle.byte_lists.specs.declared.Put.the-variants as Put
+use Rattle.text.specs.Text.{fileRefusedLine}
+use Rattle.byte_lists.specs.Bytes.{Placed, placed, putOf}
+use Rattle.byte_lists.specs.Places.{put-fits}
+use Rattle.text.specs.Lengths.{file-refused-short}
 use Rattle.play.specs.Play.{filled, scheduleText, outputRoom, put, playOf}
 use Rattle.play.specs.Inner.{Ready}
 
@@ -27,7 +29,7 @@ pub play-ready : (bytes out : List ℕ) (is : Reading) (h : Header) (n : ℕ) �
     → Ready h n out
 play-ready bytes out is h n room read e =
     let s = schedule bytes is h n read e in
-    record { p-high = s .p-high; m-high = s .m-high; n-high = omega (arith, s .bytes, s .bytes-high); room = room }
+    record { p-high = s .counts .p-high; m-high = s .m-few; n-high = s .n-high; room = room }
 
 module _ (bytes out : List ℕ) where
   pub play-none : length out < outputRoom → placed Put.NoRoom out ≡ playOf out bytes

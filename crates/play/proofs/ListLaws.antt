@@ -10,15 +10,19 @@ use lib.Dec.{ltb}
 use lib.ListN.{length, getD, set, take, length-set, length-take}
 use lib.Seq.{getD-set-same, getD-set-other, getD-take}
 use borrow.Author.Tests.{lt-ltb, le-ltb, ne-eqb, ltb-true, ltb-false}
+use Rattle.numbers.specs.declared.Terms.{Terms}
 use Rattle.logic.specs.Pick.{pick}
 use Rattle.qhs.specs.declared.Record.{Record}
 use Rattle.qhs.specs.Qhs.{mostKind, recordAt}
 use Rattle.lanes.specs.declared.State.{State}
 use Rattle.steps.specs.Memory.{Memory}
-use Rattle.acts.specs.Calls.{Outcome}
-use Rattle.batch.specs.Batch.{entered, Batch, batch, entering, entries, batchOf, Told}
+use Rattle.acts.specs.declared.Ask.{Ask}
+use Rattle.acts.specs.Worlds.{grid, Call, World, world, answerTo, worldAfter}
+use Rattle.batch.specs.Batch.{Batch, batch, entering, entries, batchOf, Told}
 use Rattle.batch.specs.Batch as Batches
-use Rattle.play.specs.Play.{cellOf, turnOf, World, world, turned, after}
+use Rattle.batch.specs.Fold.{worldOf}
+use Rattle.batch.specs.Fold as Entries
+use Rattle.play.specs.Play.{cellOf, callOf, callAt, after}
 use Rattle.play.specs.Inner.{listRecords, countOf, kindOf, Listed, Played, Short}
 
 pub kind-low : (d : Record) → d .kind < mostKind → d .kind ≡ kindOf d
@@ -27,12 +31,11 @@ kind-low d h = simp (lt-ltb _ _ h)
 pub kind-last : (d : Record) → mostKind ≤ d .kind → 3 ≡ kindOf d
 kind-last d h = simp (le-ltb _ _ h)
 
--- a record's turn is the entry of its fields
-turn-entered : (s : State) (mem : Memory) (d : Record) → entered s mem (kindOf d) (d .process) (cellOf d) (d .value) ≡ turnOf s mem d
-unfolding turnOf
-turn-entered s mem d = by (ℕ-discrete (d .kind) 0) (ℕ-discrete (d .kind) 1) (ℕ-discrete (d .kind) 2)
+-- a record's call is the call of the entry of its fields
+entry-call : (z : Terms) (d : Record) → Entries.callOf {z = z} (kindOf d) (d .process) (cellOf d) (d .value) ≡ callOf z d
+entry-call z d = by (ℕ-discrete (d .kind) 0) (ℕ-discrete (d .kind) 1) (ℕ-discrete (d .kind) 2)
   where
-    by : Dec (d .kind ≡ 0) → Dec (d .kind ≡ 1) → Dec (d .kind ≡ 2) → entered s mem (kindOf d) (d .process) (cellOf d) (d .value) ≡ turnOf s mem d
+    by : Dec (d .kind ≡ 0) → Dec (d .kind ≡ 1) → Dec (d .kind ≡ 2) → Entries.callOf {z = z} (kindOf d) (d .process) (cellOf d) (d .value) ≡ callOf z d
     by (yes e) y z = rw e
     by (no x) (yes e) z = rw e
     by (no x) (no y) (yes e) = rw e
@@ -78,15 +81,21 @@ module _ (bytes : List ℕ) (first c : ℕ) (kinds processes cells values : List
       → Filling bytes first c 0 kinds processes cells values
   filling-none k p l v = record {
     low = omega arith;
-    fields = record { kinds-are = holds-none _ kinds; processes-are = holds-none _ processes; cells-are = holds-none _ cells; values-are = holds-none _ values };
+    fields = record {
+      kinds-are = holds-none _ kinds;
+      processes-are = holds-none _ processes;
+      cells-are = holds-none _ cells;
+      values-are = holds-none _ values;
+    };
     kinds-long = k;
     processes-long = p;
     cells-long = l;
     values-long = v;
   }
 
-  pub filling-more : (i kind : ℕ) (d : Record) → c ≤ listRecords → i < c → Filling bytes first c i kinds processes cells values → d ≡ recordAt bytes (first + i)
-      → kind ≡ kindOf d → Filling bytes first c (i + 1) (set kinds i kind) (set processes i (d .process)) (set cells i (d .cell)) (set values i (d .value))
+  pub filling-more : (i kind : ℕ) (d : Record) → c ≤ listRecords → i < c
+      → Filling bytes first c i kinds processes cells values → d ≡ recordAt bytes (first + i) → kind ≡ kindOf d
+      → Filling bytes first c (i + 1) (set kinds i kind) (set processes i (d .process)) (set cells i (d .cell)) (set values i (d .value))
   filling-more i kind d few here f e k = record {
     low = omega arith;
     fields = record {
@@ -102,34 +111,46 @@ module _ (bytes : List ℕ) (first c : ℕ) (kinds processes cells values : List
   }
 
 -- the batch's fold over such lists
-module _ (bytes : List ℕ) (w : World) (first c : ℕ) (kinds processes cells values : List ℕ) (f : Fields bytes first c kinds processes cells values)
+module _ (bytes : List ℕ) (w : World State) (first c : ℕ) (kinds processes cells values : List ℕ) (f : Fields bytes first c kinds processes cells values)
     (s : State) (mem : Memory) (words : List ℕ) (start : world s mem ≡ after bytes w first) where
   abbrev at : ℕ → Batch
   at i = Batches.after kinds processes cells values (batch s mem words) i
 
-  abbrev Same : ℕ → Type 0
-  Same i = world (at i .state) (at i .memory) ≡ after bytes w (first + i)
+  abbrev z : Terms
+  z = w .state .terms
 
-  entry-turned : (i : ℕ) → i < c → Same i → entering kinds processes cells values (at i) i ≡ turned (after bytes w (first + i)) (recordAt bytes (first + i))
-  entry-turned i low e =
-      rw (f .kinds-are i low, f .processes-are i low, f .cells-are i low, f .values-are i low)
-      (turn-entered (at i .state) (at i .memory) (recordAt bytes (first + i))
-      ∙ ap (λ (x : World). turned x (recordAt bytes (first + i))) e)
+  abbrev Same : ℕ → Type 0
+  Same i = worldOf (at i) ≡ after bytes w (first + i)
+
+  call-is : (i : ℕ) → i < c → Entries.callAt z kinds processes cells values i ≡ callAt bytes w (first + i)
+  call-is i low =
+      rw (f .kinds-are i low, f .processes-are i low, f .cells-are i low, f .values-are i low) (entry-call z (recordAt bytes (first + i)))
 
   same-fold : (i : ℕ) → i ≤ c → Same i
   unfolding after Batches.after
   same-fold zero low = let e : first + 0 ≡ first = omega arith in rw e start
   same-fold (suc i) low =
       let e : first + suc i ≡ suc (first + i) = omega arith in
-      rw e (ap (λ (o : Outcome). world (o .stepped .state) (o .memory)) (entry-turned i (omega arith) (same-fold i (omega arith))))
+      rw e
+      (Entries.entering-leaves z kinds processes cells values (at i) i
+      ∙ ap (λ (a : Call Ask z). worldAfter grid (worldOf (at i)) a) (call-is i (omega arith))
+      ∙ ap (λ (x : World State). worldAfter grid x (callAt bytes w (first + i))) (same-fold i (omega arith)))
+
+  answer-is : (i : ℕ) → i < c
+      → entering kinds processes cells values (at i) i .stepped .answer ≡ answerTo grid (after bytes w (first + i)) (callAt bytes w (first + i))
+  answer-is i low =
+      Entries.entering-answers z kinds processes cells values (at i) i
+      ∙ ap (λ (a : Call Ask z). answerTo grid (worldOf (at i)) a) (call-is i low)
+      ∙ ap (λ (x : World State). answerTo grid x (callAt bytes w (first + i))) (same-fold i (omega arith))
 
   listed : (r : State) (mem′ : Memory) (words′ : List ℕ) → c ≡ entries kinds processes cells values words
       → batch r mem′ words′ ≡ batchOf s mem words kinds processes cells values
-      → Told kinds processes cells values (batch s mem words) (entries kinds processes cells values words) words′ → Listed bytes w first c (world r mem′) words′
+      → Told kinds processes cells values (batch s mem words) (entries kinds processes cells values words) words′
+      → Listed bytes w first c (world r mem′) words′
   unfolding batchOf
   listed r mem′ words′ n e t = record {
-    is = ap (λ (b : Batch). world (b .state) (b .memory)) (e ∙ ap at (sym n)) ∙ same-fold c (omega arith);
-    says = λ i low. t i (omega (arith, n, low)) ∙ ap (λ (o : Outcome). o .stepped .answer) (entry-turned i low (same-fold i (omega (arith, low))));
+    is = ap worldOf (e ∙ ap at (sym n)) ∙ same-fold c (omega arith);
+    says = λ i low. t i (omega (arith, n, low)) ∙ answer-is i low;
   }
 
 -- the shortest of the lists is that of the kinds
@@ -138,7 +159,8 @@ pub entries-first : (c : ℕ) (kinds processes cells values words : List ℕ) �
 entries-first c kinds processes cells values words e p q v w = omega arith
 
 -- the lists filled, and the batch run on as many kinds as there are records
-pub played-is : (bytes : List ℕ) (first c i : ℕ) (kinds processes cells values : List ℕ) (s r : State) (mem mem′ : Memory) (words words′ : List ℕ) → Short first c words → c ≤ i
+pub played-is : (bytes : List ℕ) (first c i : ℕ) (kinds processes cells values : List ℕ) (s r : State) (mem mem′ : Memory)
+    (words words′ : List ℕ) → Short first c words → c ≤ i
     → Filling bytes first c i kinds processes cells values → batch r mem′ words′ ≡ batchOf s mem words (take c kinds) processes cells values
     → Told (take c kinds) processes cells values (batch s mem words) (entries (take c kinds) processes cells values words) words′
     → Played bytes first c (world s mem) (world r mem′) words′

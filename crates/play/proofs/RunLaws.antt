@@ -5,24 +5,29 @@ use mathlib.Core.Path.{_≡_, refl, ap, _∙_}
 use mathlib.Core.List.{List, _++_}
 use native.Mathlib.Omega.{arith}
 use lib.ListN.{length}
+use Rattle.numbers.specs.declared.Terms.{Terms}
 use Rattle.qhs.specs.declared.Header.{Header}
+use Rattle.qhs.specs.Qhs.{mostRecords, termsOf}
 use Rattle.steps.specs.Memory.{Memory}
+use Rattle.lanes.specs.declared.State.{State}
 use Rattle.acts.specs.declared.Opened.{Opened}
 use Rattle.acts.specs.Calls.{openOf}
-use Rattle.text.specs.declared.Put.{Put}
-use Rattle.text.specs.declared.Put.the-variants as Put
-use Rattle.text.specs.Text.{sizesLine, placed, putOf, endOf}
-use Rattle.text.specs.Places.{sizes-short}
-use Rattle.play.specs.Play.{World, world, opened, after, linesTo, scheduleText, put}
+use Rattle.acts.specs.Worlds.{grid, World, world, openedWorld}
+use Rattle.byte_lists.specs.declared.Put.{Put}
+use Rattle.byte_lists.specs.declared.Put.the-variants as Put
+use Rattle.text.specs.Text.{sizesLine}
+use Rattle.byte_lists.specs.Bytes.{placed, putOf, endOf}
+use Rattle.text.specs.Lengths.{sizes-short}
+use Rattle.play.specs.Play.{after, linesTo, scheduleText, lineRoom, put}
 use Rattle.play.specs.Inner.{listRecords, countOf, wordLines, Listed, Shown, Short, Room, Ready}
 use Rattle.play.proofs.ListLaws.{counted}
 use Rattle.play.proofs.LineLaws.{shown-none, shown-line, shown-more, shown-sized, lines-listed}
 
 -- where the loop stands after k records
-pub record Going (bytes : List ℕ) (n : ℕ) (w₀ : World) (out₀ : List ℕ) (at₀ : ℕ) (w : World) (out : List ℕ) (at k : ℕ) : Type 0 where
+pub record Going (bytes : List ℕ) (n : ℕ) (w₀ : World State) (out₀ : List ℕ) (at₀ : ℕ) (w : World State) (out : List ℕ) (at k : ℕ) : Type 0 where
   pub below : k ≤ n
-  pub few : n ≤ 8189
-  pub room : at₀ + 27 * n ≤ length out₀
+  pub few : n ≤ mostRecords
+  pub room : at₀ + lineRoom * n ≤ length out₀
   pub is : w ≡ after bytes w₀ k
   pub shown : Shown k out₀ at₀ (linesTo bytes w₀ k) out at
 
@@ -33,7 +38,7 @@ begun h n out out₀ at₀ p r e f =
     let line = sizes-short (h .p) (h .m) (omega (arith, r .p-high)) (omega (arith, r .m-high)) in
     shown-line out 0 p (sizesLine (h .p) (h .m)) out₀ at₀ (omega (arith, r .room)) (omega arith) e f
 
-pub going-start : (bytes : List ℕ) (h : Header) (n : ℕ) (w₀ : World) (out out₀ : List ℕ) (at₀ : ℕ) (p : Put) → Ready h n out
+pub going-start : (bytes : List ℕ) (h : Header) (n : ℕ) (w₀ : World State) (out out₀ : List ℕ) (at₀ : ℕ) (p : Put) → Ready h n out
     → placed p out₀ ≡ putOf out 0 (sizesLine (h .p) (h .m)) → at₀ ≡ endOf p → Going bytes n w₀ out₀ at₀ w₀ out₀ at₀ 0
 unfolding after linesTo
 going-start bytes h n w₀ out out₀ at₀ p r e f =
@@ -47,7 +52,8 @@ going-start bytes h n w₀ out out₀ at₀ p r e f =
       shown = shown-none out₀ at₀;
     }
 
-module _ (bytes : List ℕ) (n : ℕ) (w₀ : World) (out₀ : List ℕ) (at₀ : ℕ) (w : World) (out : List ℕ) (at k : ℕ) (g : Going bytes n w₀ out₀ at₀ w out at k) where
+module _ (bytes : List ℕ) (n : ℕ) (w₀ : World State) (out₀ : List ℕ) (at₀ : ℕ) (w : World State) (out : List ℕ) (at k : ℕ)
+    (g : Going bytes n w₀ out₀ at₀ w out at k) where
   pub going-sized : length out ≡ length out₀
   going-sized = shown-sized out₀ at₀ k (linesTo bytes w₀ k) out at (omega (arith, g .room, g .below)) (g .shown)
 
@@ -67,7 +73,7 @@ module _ (bytes : List ℕ) (n : ℕ) (w₀ : World) (out₀ : List ℕ) (at₀ 
           room = omega (arith, going-sized, g .shown .ends, g .shown .short, g .room, d .low);
         }
 
-    pub going-next : (w′ : World) (out′ : List ℕ) (at′ : ℕ) → Listed bytes w₀ k c w′ words → Shown c out at (wordLines k words c) out′ at′
+    pub going-next : (w′ : World State) (out′ : List ℕ) (at′ : ℕ) → Listed bytes w₀ k c w′ words → Shown c out at (wordLines k words c) out′ at′
         → Going bytes n w₀ out₀ at₀ w′ out′ at′ (k + c)
     going-next w′ out′ at′ l x =
         let d = counted c (n - k) e in
@@ -81,16 +87,19 @@ module _ (bytes : List ℕ) (n : ℕ) (w₀ : World) (out₀ : List ℕ) (at₀ 
               (shown-more out₀ at₀ k c (linesTo bytes w₀ k) (wordLines k words c) out out′ at at′ (omega (arith, g .room, low)) (g .shown) x);
         }
 
-pub going-end : (bytes : List ℕ) (h : Header) (n : ℕ) (mem : Memory) (q : Opened) (out out₀ : List ℕ) (at₀ : ℕ) (p : Put) (w : World) (out′ : List ℕ) (at k : ℕ)
-    → Ready h n out → q ≡ openOf (h .p) (h .m) (h .first) (h .step) mem → placed p out₀ ≡ putOf out 0 (sizesLine (h .p) (h .m)) → at₀ ≡ endOf p
+pub going-end : (bytes : List ℕ) (h : Header) (n : ℕ) (mem : Memory) (z : Terms) (q : Opened) (out out₀ : List ℕ) (at₀ : ℕ) (p : Put)
+    (w : World State) (out′ : List ℕ) (at k : ℕ)
+    → Ready h n out → z ≡ termsOf h → q ≡ openOf z mem → placed p out₀ ≡ putOf out 0 (sizesLine (h .p) (h .m)) → at₀ ≡ endOf p
     → n ≤ k → Going bytes n (world (q .state) mem) out₀ at₀ w out′ at k → placed (Put.End at) out′ ≡ put out (scheduleText bytes h n mem)
 unfolding scheduleText
-going-end bytes h n mem q out out₀ at₀ p w out′ at k r o e f high g =
+going-end bytes h n mem z q out out₀ at₀ p w out′ at k r t o e f high g =
     let b = begun h n out out₀ at₀ p r e f in
     let is : k ≡ n = omega (arith, g .below) in
-    let same : linesTo bytes (world (q .state) mem) k ≡ linesTo bytes (opened h mem) n =
-    ap (λ (x : Opened). linesTo bytes (world (x .state) mem) k) o ∙ ap (λ (x : ℕ). linesTo bytes (opened h mem) x) is in
-    let all =
-    shown-more out 0 1 k (sizesLine (h .p) (h .m)) (linesTo bytes (opened h mem) n) out₀ out′ at₀ at (omega (arith, r .room)) b (rw (← same) (g .shown)) in
-    let long : at ≡ length (sizesLine (h .p) (h .m) ++ linesTo bytes (opened h mem) n) = omega (arith, all .ends) in
+    let opened : q ≡ openOf (termsOf h) mem = o ∙ ap (λ (y : Terms). openOf y mem) t in
+    let w₀ : World State = openedWorld grid (termsOf h) mem in
+    let same : linesTo bytes (world (q .state) mem) k ≡ linesTo bytes w₀ n =
+    ap (λ (x : Opened). linesTo bytes (world (x .state) mem) k) opened ∙ ap (λ (x : ℕ). linesTo bytes w₀ x) is in
+    let lines : Shown k out₀ at₀ (linesTo bytes w₀ n) out′ at = rw (← same) (g .shown) in
+    let all = shown-more out 0 1 k (sizesLine (h .p) (h .m)) (linesTo bytes w₀ n) out₀ out′ at₀ at (omega (arith, r .room)) b lines in
+    let long : at ≡ length (sizesLine (h .p) (h .m) ++ linesTo bytes w₀ n) = omega (arith, all .ends) in
     rw (all .shows, long)

@@ -5,13 +5,17 @@ use mathlib.Core.Path.{_≡_}
 use mathlib.Core.List.{List, [], _++_}
 use lib.Dec.{ltb}
 use lib.ListN.{length, getD}
+use Rattle.numbers.specs.Numbers.{mostProcesses}
 use Rattle.logic.specs.Pick.{pick}
 use Rattle.qhs.specs.declared.Header.{Header}
 use Rattle.qhs.specs.declared.Record.{Record}
-use Rattle.qhs.specs.Qhs.{mostKind, recordAt}
+use Rattle.qhs.specs.Qhs.{mostRecords, mostFileCells, mostKind}
 use Rattle.batch.specs.Batch.{answerOf}
-use Rattle.text.specs.Text.{answerLine, splice}
-use Rattle.play.specs.Play.{World, turned, after, outputRoom}
+use Rattle.lanes.specs.declared.State.{State}
+use Rattle.acts.specs.Worlds.{grid, World, answerTo}
+use Rattle.text.specs.Text.{answerLine}
+use Rattle.byte_lists.specs.Bytes.{splice}
+use Rattle.play.specs.Play.{callAt, after, lineRoom, outputRoom}
 
 -- The records of a list: 32 at the most.
 abbrev pub listRecords : ℕ
@@ -25,13 +29,13 @@ abbrev pub kindOf : Record → ℕ
 kindOf d = pick (ltb (d .kind) mostKind) (d .kind) mostKind
 
 -- What c records from record `first` on come to, on a grid that began as w: the grid, and the words of their answers.
-pub record Listed (bytes : List ℕ) (w : World) (first c : ℕ) (left : World) (words : List ℕ) : Type 0 where
+pub record Listed (bytes : List ℕ) (w : World State) (first c : ℕ) (left : World State) (words : List ℕ) : Type 0 where
   pub is : left ≡ after bytes w (first + c)
-  pub says : (i : ℕ) → i < c → answerOf (getD words i 0) ≡ turned (after bytes w (first + i)) (recordAt bytes (first + i)) .stepped .answer
+  pub says : (i : ℕ) → i < c → answerOf (getD words i 0) ≡ answerTo grid (after bytes w (first + i)) (callAt bytes w (first + i))
 
 -- A list played: whatever the grid began as, if the records before the list left it so.
-abbrev pub Played : List ℕ → ℕ → ℕ → World → World → List ℕ → Type 0
-Played bytes first c found left words = (w : World) → found ≡ after bytes w first → Listed bytes w first c left words
+abbrev pub Played : List ℕ → ℕ → ℕ → World State → World State → List ℕ → Type 0
+Played bytes first c found left words = (w : World State) → found ≡ after bytes w first → Listed bytes w first c left words
 
 -- The lines of the first c words of a list.
 unfoldable pub wordLines : ℕ → List ℕ → ℕ → List ℕ
@@ -42,7 +46,7 @@ wordLines first words (suc c) = wordLines first words c ++ answerLine (first + c
 pub record Shown (count : ℕ) (out : List ℕ) (at : ℕ) (text written : List ℕ) (end : ℕ) : Type 0 where
   pub shows : written ≡ splice out at text
   pub ends : end ≡ at + length text
-  pub short : length text ≤ 27 * count
+  pub short : length text ≤ lineRoom * count
 
 -- What a list asks: few records, and a word for each.
 pub record Short (first c : ℕ) (words : List ℕ) : Type 0 where
@@ -54,11 +58,11 @@ pub record Short (first c : ℕ) (words : List ℕ) : Type 0 where
 pub record Room (first c : ℕ) (words : List ℕ) (at : ℕ) (out : List ℕ) : Type 0 where
   pub number : first + c ≤ 10000
   pub told : c ≤ length words
-  pub room : at + 27 * c ≤ length out
+  pub room : at + lineRoom * c ≤ length out
 
 -- What a schedule asks of its header, of its number of records and of the buffer.
 pub record Ready (h : Header) (n : ℕ) (out : List ℕ) : Type 0 where
-  pub p-high : h .p ≤ 16
-  pub m-high : h .m ≤ 2040
-  pub n-high : n ≤ 8189
+  pub p-high : h .p ≤ mostProcesses
+  pub m-high : h .m ≤ mostFileCells
+  pub n-high : n ≤ mostRecords
   pub room : outputRoom ≤ length out

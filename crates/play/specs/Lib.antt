@@ -1,4 +1,5 @@
 pub mod Play
+pub mod Fold
 pub mod Fills
 pub mod Inner
 pub mod Listing

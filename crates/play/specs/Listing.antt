@@ -5,10 +5,11 @@ use mathlib.Core.Path.{_≡_, refl}
 use mathlib.Core.List.{List, [], _∷_, _++_}
 use Rattle.numbers.specs.Numbers.{segmentOf, offsetOf, sizeOf, log2, logIn}
 use Rattle.logic.specs.Below.{below}
-use Rattle.qhs.specs.Qhs.{numberAt, recordAt, readOf}
+use Rattle.qhs.specs.Qhs.{recordIn, readIn, readOf}
+use Rattle.byte_lists.specs.Bytes.{numberAt, word, decimalIn, decimal}
 use Rattle.acts.specs.Calls.{openingOf, begunOf, verdictOf}
-use Rattle.text.specs.Text.{word, decimalIn, decimal, answerLine, sizesLine}
-use Rattle.play.specs.Play.{turnOf, after, linesTo, scheduleText, outputOf}
+use Rattle.text.specs.Text.{answerLine, sizesLine}
+use Rattle.play.specs.Play.{after, linesTo, scheduleText, outputOf}
 
 -- A record of 8 bytes: kind, process, cell (2 bytes), value (4 bytes). All by process 0, of cell 0.
 abbrev pub step : List ℕ
@@ -30,6 +31,8 @@ file =
     header ++ read ++ step ++ write9 ++ step ++ step ++ step ++ step ++ step ++ step ++ step ++ read ++ step ++ step ++ step ++ step ++ step ++ step
 
 pub listing : outputOf file
-    ≡ word "processes 1 cells 2\n0 begun\n1 read 7 0 1\n2 begun\n3 going\n4 going\n5 going\n6 going\n7 going\n8 going\n9 written 7\n10 begun\n11 going\n12 going\n13 going\n14 going\n15 read 9 1 5\n16 refused 7\n"
-unfolding readOf numberAt recordAt turnOf after linesTo scheduleText openingOf begunOf verdictOf decimalIn decimal answerLine sizesLine segmentOf offsetOf sizeOf log2 logIn below
+    ≡ word "processes 1 cells 2\n0 begun\n1 read 7 0 1\n2 begun\n3 going\n4 going\n5 going\n6 going\n7 going\n8 going\n9 written 7\n"
+    ++ word "10 begun\n11 going\n12 going\n13 going\n14 going\n15 read 9 1 5\n16 refused 7\n"
+unfolding readOf readIn numberAt recordIn after linesTo scheduleText
+    openingOf begunOf verdictOf decimalIn decimal answerLine sizesLine segmentOf offsetOf sizeOf log2 logIn below
 listing = refl

@@ -1,9 +1,12 @@
 // The grid that a schedule leaves: its records played one after the other, and no line made.
 ghost use mathlib.Core.Path.{_≡_};
 ghost use Rattle.steps.specs.Memory.{memory};
-ghost use Rattle.play.specs.Play.{world, opened, after};
+ghost use Rattle.acts.specs.Worlds.{grid, world, openedWorld};
+ghost use Rattle.qhs.specs.Qhs.{termsOf};
+ghost use Rattle.play.specs.Play.{after};
 use super::lists;
 use lanes::State;
+use numbers::Mark;
 use qhs::Header;
 
 // The state after n records; the lent memories then hold what belongs to it.
@@ -14,11 +17,11 @@ pub fn state_after(
     readings: &mut [u32],
     links: &mut [u64],
     directory: &mut [u32],
-    pool: &mut [u32],
+    pool: &mut [Mark],
 ) -> State
-    ensures { λ r. ⌜ world r (memory (now (readings .exit)) (now (links .exit)) (now (directory .exit)) (now (pool .exit))) ≡ after (now (bytes .entry)) (opened h (memory (now (readings .entry)) (now (links .entry)) (now (directory .entry)) (now (pool .entry)))) n ⌝ }
+    ensures { λ r. ⌜ world r (memory (now (readings .exit)) (now (links .exit)) (now (directory .exit)) (now (pool .exit))) ≡ after (now (bytes .entry)) (openedWorld grid (termsOf h) (memory (now (readings .entry)) (now (links .entry)) (now (directory .entry)) (now (pool .entry)))) n ⌝ }
 {
-    let o = grid::open(h.p, h.m, h.first, h.step, readings, links, directory, pool);
+    let o = grid::open(qhs::terms_of(h), readings, links, directory, pool);
     let mut s = o.state;
     let mut words = [0u64; lists::LIST];
     let mut k: usize = 0;

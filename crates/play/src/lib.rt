@@ -1,22 +1,26 @@
 // The schedule program without its input and output: from a file's bytes to the bytes that it prints.
 ghost use mathlib.Core.Path.{_≡_};
 ghost use Rattle.steps.specs.Memory.{memory};
-ghost use Rattle.text.specs.Text.{placed};
+ghost use Rattle.byte_lists.specs.Bytes.{placed};
 ghost use Rattle.play.specs.Play.{filled, scheduleText, put, playOf};
 ghost use Rattle.play.specs.Inner.{Ready};
 
 pub mod ends;
 mod lists;
 
+use byte_lists::Put;
 use numbers::LANES;
+use numbers::Mark;
 use numbers::SEGMENTS;
 use qhs::FILE_CELLS;
+use qhs::FILE_RECORDS;
 use qhs::Header;
 use qhs::Reading;
-use text::Put;
 
-// The room that the longest output takes: 8,190 lines of 27 bytes.
-pub const OUTPUT: usize = 221130;
+// A line's length at the most, and the room that the longest output takes: a line for the sizes, and one for each record.
+const LINE: usize = 27;
+
+pub const OUTPUT: usize = LINE * (FILE_RECORDS + 1);
 
 // The memories of the largest grid that a file asks for.
 pub const CELL_WORDS: usize = FILE_CELLS as usize;
@@ -33,15 +37,15 @@ fn run(
     readings: &mut [u32],
     links: &mut [u64],
     directory: &mut [u32],
-    pool: &mut [u32],
+    pool: &mut [Mark],
     out: &mut [u8],
 ) -> Put
     requires { ⌜ Ready h n (now out) ⌝ }
     ensures { λ r. ⌜ placed r (now (out .exit)) ≡ put (now (out .entry)) (scheduleText (now (bytes .entry)) h n (memory (now (readings .entry)) (now (links .entry)) (now (directory .entry)) (now (pool .entry)))) ⌝ }
 {
-    let o = grid::open(h.p, h.m, h.first, h.step, readings, links, directory, pool);
+    let o = grid::open(qhs::terms_of(h), readings, links, directory, pool);
     let mut s = o.state;
-    let mut at = text::end_of(text::put_sizes(out, 0, h.p, h.m));
+    let mut at = byte_lists::end_of(text::put_sizes(out, 0, h.p, h.m));
     let mut words = [0u64; lists::LIST];
     let mut k: usize = 0;
     while k < n {

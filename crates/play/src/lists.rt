@@ -1,9 +1,10 @@
 // Records in short lists: each list is one call of the batch, and its answers are told by words.
 ghost use mathlib.Core.Path.{_≡_};
 ghost use Rattle.steps.specs.Memory.{memory};
-ghost use Rattle.play.specs.Play.{world};
+ghost use Rattle.acts.specs.Worlds.{world};
 ghost use Rattle.play.specs.Inner.{kindOf, countOf, wordLines, Short, Room, Played, Shown};
 use lanes::State;
+use numbers::Mark;
 use qhs::LAST_KIND;
 use qhs::Record;
 
@@ -38,7 +39,7 @@ pub fn played(
     readings: &mut [u32],
     links: &mut [u64],
     directory: &mut [u32],
-    pool: &mut [u32],
+    pool: &mut [Mark],
 ) -> State
     requires { ⌜ Short first c (now words) ⌝ }
     ensures { λ r. ⌜ Played (now (bytes .entry)) first c (world s (memory (now (readings .entry)) (now (links .entry)) (now (directory .entry)) (now (pool .entry)))) (world r (memory (now (readings .exit)) (now (links .exit)) (now (directory .exit)) (now (pool .exit)))) (now (words .exit)) ⌝ }
@@ -52,7 +53,7 @@ pub fn played(
         let d = qhs::record_at(bytes, first + i);
         kinds[i] = kind_of(d);
         processes[i] = d.process as u32;
-        cells[i] = d.cell as u32;
+        cells[i] = d.cell;
         values[i] = d.value;
         i = i + 1;
     }
@@ -79,7 +80,7 @@ pub fn lines(first: usize, c: usize, words: &[u64], at: usize, out: &mut [u8]) -
     let mut i: usize = 0;
     while i < c {
         let a = batch::answer_of(words[i]);
-        end = text::end_of(text::put_answer(out, end, first + i, a));
+        end = byte_lists::end_of(text::put_answer(out, end, first + i, a));
         i = i + 1;
     }
     end

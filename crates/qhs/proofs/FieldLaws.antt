@@ -4,16 +4,18 @@ use mathlib.Core.Path.{_≡_, refl, sym, ap, _∙_}
 use mathlib.Core.Bool.{Bool, true, false}
 use mathlib.Core.List.{List}
 use Prim.Native.Nat.{ℕ, _+_, _-_, _*_, _/_, _^_, _<_, _≤_}
-use native.Mathlib.Nat.{pow-succ', pow-le-pow-right}
+use native.Mathlib.Nat.{pow-succ', pow-le-pow-right, mul-comm, div-lt-iff-lt-mul, le-div-iff-mul-le}
 use native.Mathlib.Numerals.{add-one}
 use native.Mathlib.Omega.{arith}
 use lib.ListN.{length, List·getD-eq-default}
 use lib.Dec.{leb, eqb}
 use borrow.Author.Tests.{le-leb, lt-leb, leb-false, eq-eqb, ne-eqb}
+use Rattle.qhs.specs.declared.Layout.{Layout}
 use Rattle.qhs.specs.declared.Record.{Record}
-use Rattle.qhs.specs.Qhs.{headerBytes, recordBytes, byteAt, numberAt, marked, fieldsAt, recordStart, recordAt}
-use Rattle.qhs.specs.Inner.{startIn}
-use Rattle.qhs.specs.Laws.{number-cons, number-one, number-past}
+use Rattle.qhs.specs.Qhs.{marked, fieldsAt, recordStart, recordIn}
+use Rattle.byte_lists.specs.Bytes.{byteAt, numberAt}
+use Rattle.qhs.specs.Inner.{Sound, startIn}
+use Rattle.byte_lists.specs.Digits.{number-cons, number-one, number-past}
 
 pub past-end : (s : List ℕ) (i : ℕ) → length s ≤ i → 0 ≡ byteAt s i
 past-end s i h = sym (List·getD-eq-default s 0 {n = i} h)
@@ -39,9 +41,9 @@ room s at width n i g h w =
     let p : 256 ^ (width - i) ≤ 256 ^ 7 = pow-le-pow-right (omega arith) k in
     omega arith
 
-pub gathered-next : (s : List ℕ) (at width n i b : ℕ) → Gathered s at width n i → 0 < i → b ≡ byteAt s (at + (i - 1)) → b < 256
+pub gathered-next : (s : List ℕ) (at width n i a b : ℕ) → Gathered s at width n i → 0 < i → a ≡ byteAt s (at + (i - 1)) → (b ≡ a) × (b < 256)
     → Gathered s at width (n * 256 + b) (i - 1)
-gathered-next s at width n i b g h e small =
+gathered-next s at width n i a b g h e small =
     let here : at + (i - 1) + 1 ≡ at + i = omega (arith, g .left) in
     let more : width - (i - 1) ≡ width - i + 1 = omega (arith, g .left) in
     let v = number-cons s (at + (i - 1)) (width - i) in
@@ -67,52 +69,67 @@ gathered-below s at width n i g h =
     let w : width - i ≡ width = omega arith in
     rw w at (g .below)
 
+-- ---- a number of 32 bits
+
+pub word-fits : (width n : ℕ) → width ≤ 4 → n < 256 ^ width → n < 2 ^ 32
+word-fits width n w h = let p : 256 ^ width ≤ 256 ^ 4 = pow-le-pow-right (omega arith) w in omega arith
+
 -- ---- a record's start
 
-module _ (len k : ℕ) where
-  pub no-header : len < headerBytes → len ≡ startIn len k
-  no-header h = simp (lt-leb (recordStart k) len (omega arith))
+module _ (l : Layout) (len k : ℕ) where
+  pub no-header : len < l .header → len ≡ startIn l len k
+  no-header h = simp (lt-leb (recordStart l k) len (omega arith))
 
-  pub starts-past : headerBytes ≤ len → (len - headerBytes) / recordBytes < k → len ≡ startIn len k
-  starts-past h g = simp (lt-leb (recordStart k) len (omega arith))
+  module _ (sound : Sound l) (long : l .header ≤ len) where
+    some : 0 < l .stride
+    some = omega (arith, sound .stride-low)
 
-  pub starts : headerBytes ≤ len → k ≤ (len - headerBytes) / recordBytes → recordStart k ≡ startIn len k
-  starts h g = simp (le-leb (recordStart k) len (omega arith))
+    turned : k * l .stride ≡ l .stride * k
+    turned = mul-comm k (l .stride)
+
+    pub starts-past : (len - l .header) / l .stride < k → len ≡ startIn l len k
+    starts-past g =
+        let far = div-lt-iff-lt-mul {k = l .stride} {x = len - l .header} {y = k} some .0 g in
+        simp (lt-leb (recordStart l k) len (omega (arith, far, turned)))
+
+    module _ (g : k ≤ (len - l .header) / l .stride) where
+      pub starts-in : recordStart l k ≤ len
+      starts-in = omega (arith, le-div-iff-mul-le {k = l .stride} {x = k} {y = len - l .header} some .0 g, turned)
+
+      pub starts-fits : l .stride * k ≤ len
+      starts-fits = omega (arith, starts-in)
+
+      pub starts : recordStart l k ≡ startIn l len k
+      starts = simp (le-leb (recordStart l k) len starts-in)
 
 -- ---- a record's fields
 
-pub cell-is : (s : List ℕ) (at a b x y : ℕ) → a ≡ byteAt s at → b ≡ byteAt s (at + 1) → x ≡ a → y ≡ b → x + 256 * y ≡ numberAt s at 2
-unfolding numberAt
-cell-is s at a b x y d e f g = omega arith
+fields-past : (l : Layout) (s : List ℕ) (a b : ℕ) → length s ≤ a → length s ≤ b → fieldsAt l s a ≡ fieldsAt l s b
+fields-past l s a b h k =
+    rw (both 1 h k, same 1 1, same 2 (l .cell), same (l .value) 4)
+  where
+    both : {x y : ℕ} (width : ℕ) → length s ≤ x → length s ≤ y → numberAt s x width ≡ numberAt s y width
+    both {x} {y} width p q = number-past s x width p ∙ sym (number-past s y width q)
 
-pub value-is : (s : List ℕ) (at a b c d x y z w : ℕ) → a ≡ byteAt s at → b ≡ byteAt s (at + 1) → c ≡ byteAt s (at + 2) → d ≡ byteAt s (at + 3)
-    → x ≡ a → y ≡ b → z ≡ c → w ≡ d → x + 256 * y + 65536 * z + 16777216 * w ≡ numberAt s at 4
-unfolding numberAt
-value-is s at a b c d x y z w e f g h i j k l =
-    let two : at + 1 + 1 ≡ at + 2 = omega arith in
-    let three : at + 2 + 1 ≡ at + 3 = omega arith in
-    rw (two, three) (omega arith)
+    same : (j width : ℕ) → numberAt s (a + j) width ≡ numberAt s (b + j) width
+    same j width = both width (omega (arith, h)) (omega (arith, k))
 
-fields-past : (s : List ℕ) (a b : ℕ) → length s ≤ a → length s ≤ b → fieldsAt s a ≡ fieldsAt s b
-fields-past s a b h k =
-    rw (number-past s a 1 h, number-past s b 1 k, number-past s (a + 1) 1 (omega arith), number-past s (b + 1) 1 (omega arith))
-    (rw (number-past s (a + 2) 2 (omega arith), number-past s (b + 2) 2 (omega arith), number-past s (a + 4) 4 (omega arith), number-past s (b + 4) 4 (omega arith)))
+fields-start : (l : Layout) (s : List ℕ) (k : ℕ) (b : Bool) → leb (recordStart l k) (length s) ≡ b → fieldsAt l s (startIn l (length s) k) ≡ recordIn l s k
+unfolding recordIn
+fields-start l s k true e = rw e
+fields-start l s k false e =
+    rw e (fields-past l s (length s) (recordStart l k) (omega arith) (let h = leb-false (recordStart l k) (length s) e in omega arith))
 
-fields-start : (s : List ℕ) (k : ℕ) (b : Bool) → leb (recordStart k) (length s) ≡ b → fieldsAt s (startIn (length s) k) ≡ recordAt s k
-unfolding recordAt
-fields-start s k true e = rw e
-fields-start s k false e = rw e (fields-past s (length s) (recordStart k) (omega arith) (let h = leb-false (recordStart k) (length s) e in omega arith))
+module _ (l : Layout) (s : List ℕ) (k at : ℕ) (start : at ≡ startIn l (length s) k) where
+  there : fieldsAt l s at ≡ recordIn l s k
+  there = ap (λ (x : ℕ). fieldsAt l s x) start ∙ fields-start l s k (leb (recordStart l k) (length s)) refl
 
-module _ (s : List ℕ) (k at : ℕ) (start : at ≡ startIn (length s) k) where
-  there : fieldsAt s at ≡ recordAt s k
-  there = ap (λ (x : ℕ). fieldsAt s x) start ∙ fields-start s k (leb (recordStart k) (length s)) refl
-
-  pub record-there : (kind process cell value : ℕ) → kind ≡ byteAt s at → process ≡ byteAt s (at + 1) → cell ≡ numberAt s (at + 2) 2 → value ≡ numberAt s (at + 4) 4
-      → record { kind = kind; process = process; cell = cell; value = value } ≡ recordAt s k
+  pub record-there : (kind process cell value : ℕ) → kind ≡ byteAt s at → process ≡ byteAt s (at + 1) → cell ≡ numberAt s (at + 2) (l .cell)
+      → value ≡ numberAt s (at + l .value) 4 → record { kind = kind; process = process; cell = cell; value = value } ≡ recordIn l s k
   record-there kind process cell value a b c d =
       rw (a, b, c, d, ← number-one s at, ← number-one s (at + 1)) there
 
-  pub kind-there : (kind : ℕ) → kind ≡ byteAt s at → kind ≡ recordAt s k .kind
+  pub kind-there : (kind : ℕ) → kind ≡ byteAt s at → kind ≡ recordIn l s k .kind
   kind-there kind e =
       e ∙ sym (number-one s at) ∙ ap (λ (r : Record). r .kind) there
 

@@ -1,117 +1,131 @@
 -- What callers may use of numbers in a file and of a file that was read, in place of the definitions' text.
 -- Assumes nothing.
-use mathlib.Core.Path.{_≡_, refl, sym, ap, _∙_}
+use mathlib.Core.Path.{_≡_, sym, _∙_}
 use mathlib.Core.Bool.{true, false, not, _&&_}
 use mathlib.Core.List.{List}
-use Prim.Native.Nat.{ℕ, zero, suc, _+_, _*_, _%_, _^_, _<_, _≤_}
-use native.Mathlib.Nat.{pow-zero, pow-succ'}
-use native.Mathlib.Numerals.{add-one}
+use Prim.Native.Nat.{ℕ, _+_, _*_, _%_, _^_, _<_, _≤_}
+use native.Mathlib.Nat.{div-add-mod', mul-comm, mul-le-mul-left}
 use native.Mathlib.Omega.{arith}
-use lib.ListN.{length, drop, List·getD-eq-default}
-use lib.Seq.{getD-drop}
+use lib.ListN.{length}
 use lib.Dec.{leb}
 use borrow.Author.Tests.{ltb-false, leb-true, eqb-true, not-false}
+use Rattle.byte_lists.specs.Digits.{Bytes, number-below}
 use Rattle.numbers.specs.Numbers.{mostProcesses, mostCells}
+use Rattle.numbers.specs.Cells.{oneTo}
 use Rattle.logic.specs.Truth.{and-left, and-right}
 use Rattle.logic.specs.BelowLaws.{below-at}
-use Rattle.refusals.specs.Laws.{past}
+use Rattle.refusals.specs.Laws.{None, past, orders-then}
+use Rattle.refusals.specs.Orders.{orders}
 use Rattle.refusals.specs.declared.Refusal.{Refusal}
+use Rattle.qhs.specs.declared.Layout.{Layout}
 use Rattle.qhs.specs.declared.Header.{Header}
 use Rattle.qhs.specs.declared.Reading.{Reading}
 use Rattle.qhs.specs.declared.Reading.the-variants as Reading
-use Rattle.qhs.specs.Qhs.{headerBytes, recordBytes, mostBytes, mostFileCells, mostKind, version, byteAt, numberAt, marked, versionOf, headerOf, recordAt, bodyBytes, recordsIn, kindFits, kindsFit, fileRefusals, readOf}
+use Rattle.qhs.specs.declared.Counts.{Counts}
+use Rattle.qhs.specs.declared.Counts.the-variants as Counts
+use Rattle.qhs.specs.Qhs.{version1, mostBytes, mostRecords, mostFileCells, mostKind, marked, versionOf, headerOf, recordIn}
+use Rattle.qhs.specs.Qhs.{bodyBytes, recordsIn, kindFits, kindsFit, openRefusals, countsAs, fileRefusals, readIn, readOf}
+use Rattle.qhs.specs.Inner.{Sound}
 
--- Every byte is below 256.
-abbrev pub Bytes : List ℕ → Type 0
-Bytes s = (i : ℕ) → byteAt s i < 256
+-- ---- p and m
 
--- ---- numbers
+-- What open's first two refusals come to, told from the outcome of their one test.
+abbrev pub countedAs : {A : Type 0} → (Refusal → A) → A → Counts → A
+countedAs refuse work (Counts.Refused r) = refuse r
+countedAs refuse work Counts.Fit = work
 
--- A number of so many bytes is below that power of 256.
-pub number-below : (s : List ℕ) (at width : ℕ) → Bytes s → numberAt s at width < 256 ^ width
-unfolding numberAt
-number-below s at zero b = rw (pow-zero 256) (omega arith)
-number-below s at (suc width) b = rw (pow-succ' 256 width) (omega (arith, number-below s (at + 1) width b, b at))
+pub counted : {A : Type 0} (refuse : Refusal → A) (p m : ℕ) (work : A) → countedAs refuse work (countsAs p m) ≡ orders refuse (openRefusals p m) work
+counted refuse p m work = orders-then (countedAs refuse work) Counts.Refused (openRefusals p m) Counts.Fit
 
--- One byte more, below.
-pub number-cons : (s : List ℕ) (at width : ℕ) → numberAt s at (width + 1) ≡ byteAt s at + 256 * numberAt s (at + 1) width
-unfolding numberAt
-number-cons s at width = rw (add-one width)
+-- p and m that open does not refuse.
+pub record Counted (p m : ℕ) : Type 0 where
+  pub p-low : 1 ≤ p
+  pub p-high : p ≤ mostProcesses
+  pub m-low : 1 ≤ m
+  pub m-high : m ≤ mostCells
 
--- One byte is its own number.
-pub number-one : (s : List ℕ) (at : ℕ) → numberAt s at 1 ≡ byteAt s at
-unfolding numberAt
-number-one s at = omega arith
+within : (x high : ℕ) → not (oneTo x high) ≡ false → (1 ≤ x) × (x ≤ high)
+within x high h =
+    let both = not-false (oneTo x high) h in
+    (leb-true 1 x (and-left (leb 1 x) (leb x high) both), leb-true x high (and-right (leb 1 x) (leb x high) both))
 
--- A number of a part is the number at its place in the whole.
-pub number-drop : (s : List ℕ) (from at width : ℕ) → numberAt (drop from s) at width ≡ numberAt s (from + at) width
-unfolding numberAt
-number-drop s from at zero = refl
-number-drop s from at (suc width) =
-    let e : from + (at + 1) ≡ from + at + 1 = omega arith in
-    rw (getD-drop from s at 0, number-drop s from (at + 1) width, e)
-
--- Past the end every number is 0.
-pub number-past : (s : List ℕ) (at width : ℕ) → length s ≤ at → numberAt s at width ≡ 0
-unfolding numberAt
-number-past s at zero h = refl
-number-past s at (suc width) h =
-    let here = List·getD-eq-default s 0 {n = at} h in
-    let rest = number-past s (at + 1) width (omega arith) in
-    omega arith
+pub none-counted : (p m : ℕ) → None (openRefusals p m) → Counted p m
+none-counted p m none =
+    let p-in = within p mostProcesses (none .0) in
+    let m-in = within m mostCells (none .1 .0) in
+    record { p-low = p-in .0; p-high = p-in .1; m-low = m-in .0; m-high = m-in .1 }
 
 -- ---- a file that was read
+
+pub version1-sound : Sound version1
+version1-sound = record {
+  header-low = omega arith;
+  stride-low = omega arith;
+  cell-high = omega arith;
+  first-near = omega arith;
+  step-near = omega arith;
+  fill-near = omega arith;
+  value-near = omega arith;
+}
 
 refused-not : (r : Refusal) (d : Header) (n : ℕ) → Reading.Refused r ≡ Reading.Schedule d n → ⊥
 refused-not r d n h = let z : _≡_ {A = ℕ} 0 1 = cc in omega arith
 
-pub within : (x high : ℕ) → not (leb 1 x && leb x high) ≡ false → (1 ≤ x) × (x ≤ high)
-within x high h =
-    let both = not-false (leb 1 x && leb x high) h in
-    (leb-true 1 x (and-left (leb 1 x) (leb x high) both), leb-true x high (and-right (leb 1 x) (leb x high) both))
-
 -- What a schedule's header and its number of records satisfy.
-pub record Schedule (s : List ℕ) (d : Header) (n : ℕ) : Type 0 where
+pub record Schedule (l : Layout) (s : List ℕ) (d : Header) (n : ℕ) : Type 0 where
   pub mark : marked s ≡ true
-  pub version-is : versionOf s ≡ version
-  pub header : d ≡ headerOf s
-  pub p-low : 1 ≤ d .p
-  pub p-high : d .p ≤ mostProcesses
-  pub m-low : 1 ≤ d .m
-  pub m-high : d .m ≤ mostFileCells
-  pub bytes : length s ≡ headerBytes + recordBytes * n
+  pub version-is : versionOf s ≡ l .version
+  pub header : d ≡ headerOf l s
+  pub counts : Counted (d .p) (d .m)
+  pub m-few : d .m ≤ mostFileCells
+  pub bytes : length s ≡ l .header + l .stride * n
   pub bytes-high : length s ≤ mostBytes
-  pub kinds : (k : ℕ) → k < n → recordAt s k .kind ≤ mostKind
+  pub n-high : n ≤ mostRecords
+  pub kinds : (k : ℕ) → k < n → recordIn l s k .kind ≤ mostKind
 
-pub schedule : (s : List ℕ) (r : Reading) (d : Header) (n : ℕ) → r ≡ readOf s → r ≡ Reading.Schedule d n → Schedule s d n
-unfolding readOf
-schedule s r d n e f =
-    let h = past Reading.Refused (fileRefusals s) (Reading.Schedule (headerOf s) (recordsIn s)) (Reading.Schedule d n) (λ r. refused-not r d n) (sym e ∙ f) in
-    let none = h .0 in
-    let d-is : d ≡ headerOf s = cc (h .1) in
-    let fits = ltb-false mostBytes (length s) (none .0) in
-    let few = ltb-false mostFileCells (headerOf s .m) (none .1 .1 .1 .0) in
-    let begins = not-false (leb headerBytes (length s) && marked s) (none .1 .0) in
-    let long = leb-true headerBytes (length s) (and-left (leb headerBytes (length s)) (marked s) begins) in
-    let whole = eqb-true (bodyBytes s % recordBytes) 0 (not-false _ (none .1 .1 .1 .1 .0)) in
-    let known = not-false (kindsFit s) (none .1 .1 .1 .1 .1 .0) in
-    let p-in = within (headerOf s .p) mostProcesses (none .1 .1 .1 .1 .1 .1 .0) in
-    let m-in = within (headerOf s .m) mostCells (none .1 .1 .1 .1 .1 .1 .1 .0) in
-    let p-is : d .p ≡ headerOf s .p = ap (λ (x : Header). x .p) d-is in
-    let m-is : d .m ≡ headerOf s .m = ap (λ (x : Header). x .m) d-is in
-    let n-is : n ≡ recordsIn s = cc (h .1) in
+-- whole records, as many as there are
+whole-bytes : (l : Layout) (s : List ℕ) → l .header ≤ length s → bodyBytes l s % l .stride ≡ 0 → length s ≡ l .header + l .stride * recordsIn l s
+whole-bytes l s long whole =
+    let all = div-add-mod' (bodyBytes l s) (l .stride) in
+    let turned = mul-comm (recordsIn l s) (l .stride) in
+    omega arith
+
+few-records : (l : Layout) (n len : ℕ) → Sound l → len ≡ l .header + l .stride * n → len ≤ mostBytes → n ≤ mostRecords
+few-records l n len sound e fits =
+    let low = mul-le-mul-left n (sound .stride-low) in
+    let turned = mul-comm n (l .stride) in
+    omega (arith, sound .header-low)
+
+schedule-in : (l : Layout) (s : List ℕ) (d : Header) (n : ℕ) → Sound l → readIn l s ≡ Reading.Schedule d n → Schedule l s d n
+unfolding readIn
+schedule-in l s d n sound e =
+    let h = past Reading.Refused (fileRefusals l s) (Reading.Schedule (headerOf l s) (recordsIn l s)) (Reading.Schedule d n) (λ r. refused-not r d n) e in
+    let fits = h .0 .0 in
+    let after-mark = h .0 .1 .1 in
+    let body = after-mark .1 .1 in
+    let d-is : d ≡ headerOf l s = cc (h .1) in
+    let n-is : n ≡ recordsIn l s = cc (h .1) in
+    let short = ltb-false mostBytes (length s) fits in
+    let begins = not-false (leb (l .header) (length s) && marked s) (h .0 .1 .0) in
+    let long = leb-true (l .header) (length s) (and-left (leb (l .header) (length s)) (marked s) begins) in
+    let whole = eqb-true (bodyBytes l s % l .stride) 0 (not-false _ (body .0)) in
+    let known = not-false (kindsFit l s) (body .1 .0) in
+    let bytes : length s ≡ l .header + l .stride * n = whole-bytes l s long whole ∙ rw n-is in
     record {
-      mark = and-right (leb headerBytes (length s)) (marked s) begins;
-      version-is = eqb-true (versionOf s) version (not-false _ (none .1 .1 .0));
+      mark = and-right (leb (l .header) (length s)) (marked s) begins;
+      version-is = eqb-true (versionOf s) (l .version) (not-false _ (after-mark .0));
       header = d-is;
-      p-low = rw p-is (p-in .0);
-      p-high = rw p-is (p-in .1);
-      m-low = rw m-is (m-in .0);
-      m-high = rw m-is few;
-      bytes = omega arith;
-      bytes-high = fits;
-      kinds = λ k low. leb-true _ _ (below-at (recordsIn s) k (kindFits s) (omega arith) known);
+      counts = rw d-is (none-counted (headerOf l s .p) (headerOf l s .m) (body .1 .1));
+      m-few = rw d-is (ltb-false mostFileCells (headerOf l s .m) (after-mark .1 .0));
+      bytes = bytes;
+      bytes-high = short;
+      n-high = few-records l n (length s) sound bytes short;
+      kinds = λ k low. leb-true _ _ (below-at (recordsIn l s) k (kindFits l s) (rw (sym n-is) low) known);
     }
+
+pub schedule : (s : List ℕ) (r : Reading) (d : Header) (n : ℕ) → r ≡ readOf s → r ≡ Reading.Schedule d n → Schedule version1 s d n
+unfolding readOf
+schedule s r d n e f = schedule-in version1 s d n version1-sound (sym e ∙ f)
 
 -- Its numbers fit their types: first and step 32 bits, the fill 64.
 pub record Words (d : Header) : Type 0 where
@@ -119,9 +133,9 @@ pub record Words (d : Header) : Type 0 where
   pub step-fits : d .step < 2 ^ 32
   pub fill-fits : d .fill < 2 ^ 64
 
-pub words : (s : List ℕ) → Bytes s → Words (headerOf s)
-words s b = record {
-  first-fits = number-below s 8 4 b;
-  step-fits = number-below s 12 4 b;
-  fill-fits = number-below s 16 8 b;
+pub words : (l : Layout) (s : List ℕ) → Bytes s → Words (headerOf l s)
+words l s b = record {
+  first-fits = number-below s (l .first) 4 b;
+  step-fits = number-below s (l .step) 4 b;
+  fill-fits = number-below s (l .fill) 8 b;
 }

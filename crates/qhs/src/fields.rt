@@ -1,11 +1,9 @@
-// The fields of a file's bytes: little-endian numbers, and what a record holds.
+// The fields of a file's bytes: little-endian numbers over their width, and where a record starts.
 ghost use mathlib.Core.Path.{_≡_};
-ghost use Prim.Native.Nat.{_+_, _^_, _≤_, _<_};
-ghost use lib.ListN.{length};
-ghost use Rattle.qhs.specs.Qhs.{byteAt, numberAt};
-ghost use Rattle.qhs.specs.Inner.{startIn};
-use super::HEADER_BYTES;
-use super::RECORD_BYTES;
+ghost use Prim.Native.Nat.{_^_, _≤_, _<_};
+ghost use Rattle.byte_lists.specs.Bytes.{byteAt, numberAt};
+ghost use Rattle.qhs.specs.Inner.{Sound, Near, startIn};
+use super::Layout;
 
 fn wide(b: u8) -> u64
     ensures { λ r. ⌜ (r ≡ b) × (r < 256) ⌝ }
@@ -22,46 +20,36 @@ pub fn byte_at(bytes: &[u8], i: usize) -> u8
 
 // The little-endian number that `width` bytes hold from byte `at` on.
 pub fn number_at(bytes: &[u8], at: usize, width: usize) -> u64
-    requires { ⌜ (width ≤ 8) × (at + width ≤ length (now bytes)) ⌝ }
+    requires { ⌜ (width ≤ 8) × Near (now bytes) at ⌝ }
     ensures { λ r. ⌜ (r ≡ numberAt (now (bytes .entry)) at width) × (r < 256 ^ width) ⌝ }
 {
     let mut n: u64 = 0;
     let mut i = width;
     while 0 < i {
         i = i - 1;
-        n = n * 256 + wide(bytes[at + i]);
+        n = n * 256 + wide(byte_at(bytes, at + i));
     }
     n
 }
 
+// Such a number of 32 bits at the most.
+pub fn word_at(bytes: &[u8], at: usize, width: usize) -> u32
+    requires { ⌜ (width ≤ 4) × Near (now bytes) at ⌝ }
+    ensures { λ r. ⌜ r ≡ numberAt (now (bytes .entry)) at width ⌝ }
+{
+    number_at(bytes, at, width) as u32
+}
+
 // Where record k starts in a file of `len` bytes; the file's end where it would start past it.
-pub fn start_of(len: usize, k: usize) -> usize
-    ensures { λ r. ⌜ (r ≤ len) × (r ≡ startIn len k) ⌝ }
+pub fn start_of(l: Layout, len: usize, k: usize) -> usize
+    requires { ⌜ Sound l ⌝ }
+    ensures { λ r. ⌜ (r ≤ len) × (r ≡ startIn l len k) ⌝ }
 {
-    if len < HEADER_BYTES {
+    if len < l.header {
         return len;
     }
-    if (len - HEADER_BYTES) / RECORD_BYTES < k {
+    if (len - l.header) / l.stride < k {
         return len;
     }
-    HEADER_BYTES + RECORD_BYTES * k
-}
-
-// A record's cell, in the file's two bytes from `at` on; a byte past the end counts as 0.
-pub fn cell_at(bytes: &[u8], at: usize) -> u16
-    requires { ⌜ at ≤ length (now bytes) + 4 ⌝ }
-    ensures { λ r. ⌜ r ≡ numberAt (now (bytes .entry)) at 2 ⌝ }
-{
-    (wide(byte_at(bytes, at)) + 256 * wide(byte_at(bytes, at + 1))) as u16
-}
-
-// A record's value, in the file's four bytes from `at` on.
-pub fn value_at(bytes: &[u8], at: usize) -> u32
-    requires { ⌜ at ≤ length (now bytes) + 4 ⌝ }
-    ensures { λ r. ⌜ r ≡ numberAt (now (bytes .entry)) at 4 ⌝ }
-{
-    (wide(byte_at(bytes, at))
-        + 256 * wide(byte_at(bytes, at + 1))
-        + 65536 * wide(byte_at(bytes, at + 2))
-        + 16777216 * wide(byte_at(bytes, at + 3))) as u32
+    l.header + l.stride * k
 }

@@ -1,16 +1,42 @@
-// The schedule file, version 1: its header and its records, or the refusal.
+// The schedule file: its header and its records, or the refusal.
 ghost use mathlib.Core.Path.{_≡_};
 ghost use Prim.Native.Nat.{_≤_};
 ghost use lib.ListN.{length};
 ghost use Rattle.logic.specs.Below.{below};
-ghost use Rattle.qhs.specs.Qhs.{headerBytes, marked, headerOf, recordAt, kindFits, readOf};
-ghost use Rattle.qhs.specs.Inner.{openedAs};
+ghost use Rattle.qhs.specs.Qhs.{marked, headerOf, termsOf, recordAt, kindFits, countsAs, readIn, readOf};
+ghost use Rattle.qhs.specs.Inner.{Sound, openedAs, recordsAs};
 
 mod fields;
 
-use numbers::CELLS;
-use numbers::PROCESSES;
+use numbers::Terms;
 use refusals::Refusal;
+
+// Where the files of a version have their parts: lengths, places and widths in bytes.
+pub struct Layout {
+    pub version: u64,
+    // The header's length, and how far a record starts after the one before.
+    pub header: usize,
+    pub stride: usize,
+    // How wide a number of cells is: the header's count of them, and a record's cell.
+    pub cell: usize,
+    // Where the header has first, step and the fill.
+    pub first: usize,
+    pub step: usize,
+    pub fill: usize,
+    // Where a record has its value.
+    pub value: usize,
+}
+
+pub const VERSION_1: Layout = Layout {
+    version: 1,
+    header: 24,
+    stride: 8,
+    cell: 2,
+    first: 8,
+    step: 12,
+    fill: 16,
+    value: 4,
+};
 
 // What the header says.
 pub struct Header {
@@ -25,7 +51,7 @@ pub struct Header {
 pub struct Record {
     pub kind: u8,
     pub process: u8,
-    pub cell: u16,
+    pub cell: u32,
     pub value: u32,
 }
 
@@ -35,16 +61,19 @@ pub enum Reading {
     Schedule(Header, usize),
 }
 
-// A file's length at the most.
+// What open says to p and m alone.
+pub enum Counts {
+    Refused(Refusal),
+    Fit,
+}
+
+// A file's length at the most, and one byte more: the room in which a longer one is seen to be.
 pub const FILE_BYTES: usize = 65536;
 
-// The header's length, and a record's.
-pub const HEADER_BYTES: usize = 24;
+pub const INPUT: usize = FILE_BYTES + 1;
 
-pub const RECORD_BYTES: usize = 8;
-
-// The version that is read.
-pub const VERSION: u64 = 1;
+// The records that a file has at the most.
+pub const FILE_RECORDS: usize = (FILE_BYTES - VERSION_1.header) / VERSION_1.stride;
 
 // A file's cells at the most.
 pub const FILE_CELLS: u32 = 2040;
@@ -54,7 +83,7 @@ pub const LAST_KIND: u8 = 3;
 
 // Whether the file starts with "QHS".
 fn marked(bytes: &[u8]) -> bool
-    requires { ⌜ headerBytes ≤ length (now bytes) ⌝ }
+    requires { ⌜ 3 ≤ length (now bytes) ⌝ }
     ensures { λ r. ⌜ r ≡ marked (now (bytes .entry)) ⌝ }
 {
     if bytes[0] != b'Q' {
@@ -66,16 +95,28 @@ fn marked(bytes: &[u8]) -> bool
     bytes[2] == b'S'
 }
 
-fn header_of(bytes: &[u8]) -> Header
-    requires { ⌜ headerBytes ≤ length (now bytes) ⌝ }
-    ensures { λ r. ⌜ r ≡ headerOf (now (bytes .entry)) ⌝ }
+fn header_of(l: Layout, bytes: &[u8]) -> Header
+    requires { ⌜ Sound l ⌝ }
+    ensures { λ r. ⌜ r ≡ headerOf l (now (bytes .entry)) ⌝ }
 {
     Header {
-        p: fields::number_at(bytes, 5, 1) as u32,
-        m: fields::number_at(bytes, 6, 2) as u32,
-        first: fields::number_at(bytes, 8, 4) as u32,
-        step: fields::number_at(bytes, 12, 4) as u32,
-        fill: fields::number_at(bytes, 16, 8),
+        p: fields::word_at(bytes, 5, 1),
+        m: fields::word_at(bytes, 6, l.cell),
+        first: fields::word_at(bytes, l.first, 4),
+        step: fields::word_at(bytes, l.step, 4),
+        fill: fields::number_at(bytes, l.fill, 8),
+    }
+}
+
+// What a grid of this header is opened with.
+pub fn terms_of(h: Header) -> Terms
+    ensures { λ r. ⌜ r ≡ termsOf h ⌝ }
+{
+    Terms {
+        p: h.p,
+        m: h.m,
+        first: h.first,
+        step: h.step,
     }
 }
 
@@ -83,22 +124,24 @@ fn header_of(bytes: &[u8]) -> Header
 pub fn record_at(bytes: &[u8], k: usize) -> Record
     ensures { λ r. ⌜ r ≡ recordAt (now (bytes .entry)) k ⌝ }
 {
-    let at = fields::start_of(bytes.len(), k);
+    let l = VERSION_1;
+    let at = fields::start_of(l, bytes.len(), k);
     Record {
         kind: fields::byte_at(bytes, at),
         process: fields::byte_at(bytes, at + 1),
-        cell: fields::cell_at(bytes, at + 2),
-        value: fields::value_at(bytes, at + 4),
+        cell: fields::word_at(bytes, at + 2, l.cell),
+        value: fields::word_at(bytes, at + l.value, 4),
     }
 }
 
 // Whether the first n records are of known kinds.
-fn kinds_fit(bytes: &[u8], n: usize) -> bool
-    ensures { λ r. ⌜ r ≡ below n (kindFits (now (bytes .entry))) ⌝ }
+fn kinds_fit(l: Layout, bytes: &[u8], n: usize) -> bool
+    requires { ⌜ Sound l ⌝ }
+    ensures { λ r. ⌜ r ≡ below n (kindFits l (now (bytes .entry))) ⌝ }
 {
     let mut k: usize = 0;
     while k < n {
-        let at = fields::start_of(bytes.len(), k);
+        let at = fields::start_of(l, bytes.len(), k);
         if LAST_KIND < fields::byte_at(bytes, at) {
             return false;
         }
@@ -107,52 +150,72 @@ fn kinds_fit(bytes: &[u8], n: usize) -> bool
     true
 }
 
+// Open's first two refusals.
+pub fn counts_of(p: u32, m: u32) -> Counts
+    ensures { λ r. ⌜ r ≡ countsAs p m ⌝ }
+{
+    if !numbers::processes_fit(p) {
+        return Counts::Refused(Refusal::ProcessCount);
+    }
+    if !numbers::cells_fit(m) {
+        return Counts::Refused(Refusal::CellCount);
+    }
+    Counts::Fit
+}
+
 // A file whose records are in order is held to what open asks of p and m.
 fn opened(h: Header, n: usize) -> Reading
     ensures { λ r. ⌜ r ≡ openedAs h n ⌝ }
 {
-    if h.p < 1 {
-        return Reading::Refused(Refusal::ProcessCount);
+    match counts_of(h.p, h.m) {
+        Counts::Refused(r) => Reading::Refused(r),
+        Counts::Fit => Reading::Schedule(h, n),
     }
-    if PROCESSES < h.p {
-        return Reading::Refused(Refusal::ProcessCount);
+}
+
+// A file whose header is in order is held to its records, and then to open.
+fn records_of(l: Layout, bytes: &[u8], h: Header) -> Reading
+    requires { ⌜ Sound l × (l .header ≤ length (now bytes)) ⌝ }
+    ensures { λ r. ⌜ r ≡ recordsAs l (now (bytes .entry)) h ⌝ }
+{
+    let body = bytes.len() - l.header;
+    if body % l.stride != 0 {
+        return Reading::Refused(Refusal::RaggedRecords);
     }
-    if h.m < 1 {
-        return Reading::Refused(Refusal::CellCount);
+    let n = body / l.stride;
+    if !kinds_fit(l, bytes, n) {
+        return Reading::Refused(Refusal::RecordKind);
     }
-    if CELLS < h.m {
-        return Reading::Refused(Refusal::CellCount);
+    opened(h, n)
+}
+
+// Reads a file laid out so.
+fn read_in(l: Layout, bytes: &[u8]) -> Reading
+    requires { ⌜ Sound l ⌝ }
+    ensures { λ r. ⌜ r ≡ readIn l (now (bytes .entry)) ⌝ }
+{
+    if FILE_BYTES < bytes.len() {
+        return Reading::Refused(Refusal::FileTooLong);
     }
-    Reading::Schedule(h, n)
+    if bytes.len() < l.header {
+        return Reading::Refused(Refusal::NotASchedule);
+    }
+    if !marked(bytes) {
+        return Reading::Refused(Refusal::NotASchedule);
+    }
+    if fields::number_at(bytes, 3, 2) != l.version {
+        return Reading::Refused(Refusal::Version);
+    }
+    let h = header_of(l, bytes);
+    if FILE_CELLS < h.m {
+        return Reading::Refused(Refusal::TooManyCells);
+    }
+    records_of(l, bytes, h)
 }
 
 // Reads a file of any bytes: the first refusal that holds is given.
 pub fn read(bytes: &[u8]) -> Reading
     ensures { λ r. ⌜ r ≡ readOf (now (bytes .entry)) ⌝ }
 {
-    if FILE_BYTES < bytes.len() {
-        return Reading::Refused(Refusal::FileTooLong);
-    }
-    if bytes.len() < HEADER_BYTES {
-        return Reading::Refused(Refusal::NotASchedule);
-    }
-    if !marked(bytes) {
-        return Reading::Refused(Refusal::NotASchedule);
-    }
-    if fields::number_at(bytes, 3, 2) != VERSION {
-        return Reading::Refused(Refusal::Version);
-    }
-    let h = header_of(bytes);
-    if FILE_CELLS < h.m {
-        return Reading::Refused(Refusal::TooManyCells);
-    }
-    let body = bytes.len() - HEADER_BYTES;
-    if body % RECORD_BYTES != 0 {
-        return Reading::Refused(Refusal::RaggedRecords);
-    }
-    let n = body / RECORD_BYTES;
-    if !kinds_fit(bytes, n) {
-        return Reading::Refused(Refusal::RecordKind);
-    }
-    opened(h, n)
+    read_in(VERSION_1, bytes)
 }

@@ -9,12 +9,12 @@ use lib.ListN.{length, set, length-append, length-set}
 use lib.Seq.{set-split}
 use borrow.Author.Tests.{eq-eqb, ne-eqb}
 use Rattle.qhs.specs.declared.Header.{Header}
-use Rattle.qhs.specs.Qhs.{headerBytes, recordBytes, version}
-use Rattle.text.specs.declared.Put.{Put}
-use Rattle.text.specs.Text.{splice, placed, putOf, endOf}
-use Rattle.text.specs.Places.{put-end, splice-none, splice-length, splice-more}
+use Rattle.byte_lists.specs.declared.Put.{Put}
+use Rattle.byte_lists.specs.Bytes.{splice, placed, putOf, endOf, bytesOf}
+use Rattle.byte_lists.specs.Places.{put-end, splice-none, splice-length, splice-more}
 use Rattle.qhs_writer.specs.declared.Entry.{Entry}
-use Rattle.qhs_writer.specs.Writer.{Fields, entryAt, bytesOf, mark, frontBytes, backBytes, headBytes, stepKind, writeKind, needed, entryBytes, entriesBelow}
+use Rattle.qhs_writer.specs.Writer.{headerBytes, recordBytes, version, Fields, entryAt, mark, frontBytes, backBytes}
+use Rattle.qhs_writer.specs.Writer.{headBytes, stepKind, writeKind, needed, entryBytes, entriesBelow}
 use Rattle.qhs_writer.specs.Inner.{Laid, Within}
 
 laid-none : (out : List ℕ) (at : ℕ) → Laid out at 0 [] out at
@@ -25,7 +25,8 @@ unfolding splice
 laid-byte out at b h =
     record { is = refl; ends = refl; shows = rw (add-one at) (set-split out at b h); sized = length-set out at b }
 
-pub laid-then : (out o o′ xs ys : List ℕ) (at x y a b : ℕ) → at + x ≤ length out → Laid out at x xs o a → Laid o a y ys o′ b → Laid out at (x + y) (xs ++ ys) o′ b
+pub laid-then : (out o o′ xs ys : List ℕ) (at x y a b : ℕ) → at + x ≤ length out → Laid out at x xs o a → Laid o a y ys o′ b
+    → Laid out at (x + y) (xs ++ ys) o′ b
 laid-then out o o′ xs ys at x y a b h l k =
     let here : a ≡ at + length xs = omega (arith, l .ends, l .is) in
     let room : at + length xs ≤ length out = omega (arith, l .is) in
@@ -77,7 +78,8 @@ module _ (out₀ : List ℕ) (at width n : ℕ) (out : List ℕ) (rest i : ℕ) 
         over = rw (add-one i) (ap (λ (k : ℕ). k / 256) (g .over));
         laid =
             rw (more, ← far)
-            (laid-then out₀ out (set out (at + i) b) (bytesOf i n) (b ∷ []) at i 1 (at + i) (at + i + 1) (omega (arith, g .room)) (g .laid) (laid-byte out (at + i) b fits));
+            (laid-then out₀ out (set out (at + i) b) (bytesOf i n) (b ∷ []) at i 1 (at + i) (at + i + 1) (omega (arith, g .room)) (g .laid)
+            (laid-byte out (at + i) b fits));
       }
 
   pub numbered-all : width ≤ i → Laid out₀ at width (bytesOf width n) out (at + width)

@@ -1,27 +1,29 @@
 -- Each case of writing a file, as a law of its definition.
 -- Assumes nothing.
-use mathlib.Core.Path.{_≡_, refl, sym, _∙_}
+use mathlib.Core.Path.{_≡_, refl, sym, ap, _∙_}
 use mathlib.Core.Bool.{Bool, true, false, not}
 use mathlib.Core.List.{List, _++_}
 use Prim.Native.Nat.{ℕ, _+_, _*_, _<_, _≤_}
 use native.Mathlib.Omega.{arith}
-use lib.Dec.{leb, ltb}
+use lib.Dec.{ltb}
 use lib.ListN.{length, getD}
 use borrow.Author.Tests.{lt-ltb, le-ltb, le-leb, lt-leb, not-true, not-false}
-use Rattle.numbers.specs.Numbers.{mostProcesses, mostCells}
 use Rattle.logic.specs.Below.{below}
 use Rattle.logic.specs.BelowLaws.{below-fails, below-next}
 use Rattle.refusals.specs.declared.Refusal.{Refusal}
 use Rattle.refusals.specs.declared.Refusal.the-variants as Refusal
 use Rattle.qhs.specs.declared.Header.{Header}
-use Rattle.qhs.specs.Qhs.{headerBytes, recordBytes, mostBytes, mostFileCells, mostKind}
-use Rattle.text.specs.Text.{splice}
+use Rattle.qhs.specs.declared.Counts.{Counts}
+use Rattle.qhs.specs.declared.Counts.the-variants as Counts
+use Rattle.qhs.specs.Qhs.{mostBytes, mostRecords, mostFileCells, mostKind, countsAs}
+use Rattle.qhs.specs.Laws.{countedAs, counted}
+use Rattle.byte_lists.specs.Bytes.{splice}
 use Rattle.qhs_writer.specs.declared.Wrote.{Wrote}
 use Rattle.qhs_writer.specs.declared.Wrote.the-variants as Wrote
-use Rattle.qhs_writer.specs.Writer.{Fields, count, headBytes, entriesBelow, fileOf, known, page, writeOf}
-use Rattle.qhs_writer.specs.Inner.{Laid}
+use Rattle.qhs_writer.specs.Writer.{headerBytes, recordBytes, Fields, count, headBytes, entriesBelow, fileOf, known, Page, page, writeOf}
+use Rattle.qhs_writer.specs.Inner.{Laid, Few, filedOf}
 use Rattle.qhs_writer.specs.Sizes.{file-length}
-use Rattle.qhs_writer.specs.Outcomes.{Fine, over-long, written as put}
+use Rattle.qhs_writer.specs.Outcomes.{over-long}
 use Rattle.qhs_writer.proofs.LaidLaws.{laid-then}
 
 -- ---- the kinds of the first records
@@ -45,64 +47,59 @@ module _ (kinds : List ℕ) (k : ℕ) where
 
 -- ---- the refusals, and the file
 
-module _ (h : Header) (f : Fields) (out : List ℕ) (n : ℕ) (is : n ≡ count f) where
+module _ (h : Header) (f : Fields) (out : List ℕ) (n : ℕ) (q : Few f n) where
   long : length (fileOf h f) ≡ headerBytes + recordBytes * n
-  long = file-length h f ∙ rw is
+  long = file-length h f ∙ rw (q .is)
 
-  pub too-long : 8189 < n → page (Wrote.Refused Refusal.FileTooLong) out ≡ writeOf h f out
+  pub no-room : length out < headerBytes + recordBytes * n → page (Wrote.Refused Refusal.NoRoom) out ≡ filedOf h f out
+  no-room g = simp (lt-ltb (length out) (length (fileOf h f)) (omega (arith, long)))
+
+  pub written : (o o′ : List ℕ) (a b : ℕ) → headerBytes + recordBytes * n ≤ length out → Laid out 0 headerBytes (headBytes h) o a
+      → Laid o a (recordBytes * n) (entriesBelow f n) o′ b → page (Wrote.Bytes b) o′ ≡ filedOf h f out
+  unfolding fileOf
+  written o o′ a b g l k =
+      let all = laid-then out o o′ (headBytes h) (entriesBelow f n) 0 headerBytes (recordBytes * n) a b (omega arith) l k in
+      let whole : fileOf h f ≡ headBytes h ++ entriesBelow f n = rw (q .is) in
+      let ends : b ≡ length (fileOf h f) = omega (arith, all .ends, long) in
+      let shows : o′ ≡ splice out 0 (fileOf h f) = all .shows ∙ rw whole in
+      rw (ends, shows) (simp (le-ltb (length out) (length (fileOf h f)) (omega (arith, long))))
+
+module _ (h : Header) (f : Fields) (out : List ℕ) (n : ℕ) (is : n ≡ count f) where
+  pub too-long : mostRecords < n → page (Wrote.Refused Refusal.FileTooLong) out ≡ writeOf h f out
   too-long g = sym (over-long h f out (omega arith))
 
-  module _ (fits : n ≤ 8189) where
+  module _ (fits : n ≤ mostRecords) where
+    pub few : Few f n
+    few = record { is = is; high = fits }
+
     short : ltb mostBytes (length (fileOf h f)) ≡ false
-    short = le-ltb mostBytes (length (fileOf h f)) (omega (arith, long))
+    short = le-ltb mostBytes (length (fileOf h f)) (omega (arith, long h f out n few))
 
     pub many-cells : mostFileCells < h .m → page (Wrote.Refused Refusal.TooManyCells) out ≡ writeOf h f out
     unfolding writeOf
     many-cells g = simp (short, lt-ltb _ _ g)
 
-    module _ (few : h .m ≤ mostFileCells) (b : Bool) (eb : b ≡ below n (known (f .kinds))) where
+    module _ (small : h .m ≤ mostFileCells) (b : Bool) (eb : b ≡ below n (known (f .kinds))) where
       all-known : b ≡ below (count f) (known (f .kinds))
       all-known = eb ∙ rw is
 
       pub unknown-kind : not b ≡ true → page (Wrote.Refused Refusal.RecordKind) out ≡ writeOf h f out
       unfolding writeOf
-      unknown-kind g = simp (short, le-ltb _ _ few, sym all-known ∙ not-true b g)
+      unknown-kind g = simp (short, le-ltb _ _ small, sym all-known ∙ not-true b g)
 
-      module _ (kinds : not b ≡ false) where
-        fine : below (count f) (known (f .kinds)) ≡ true
-        fine = sym all-known ∙ not-false b kinds
+      module _ (kinds : not b ≡ false) (c : Counts) (counts : c ≡ countsAs (h .p) (h .m)) where
+        abbrev comes : Counts → Page
+        comes x = countedAs (λ r. page (Wrote.Refused r) out) (filedOf h f out) x
 
-        pub no-process : h .p < 1 → page (Wrote.Refused Refusal.ProcessCount) out ≡ writeOf h f out
+        left : comes c ≡ writeOf h f out
         unfolding writeOf
-        no-process g = simp (short, le-ltb _ _ few, fine, lt-leb _ _ g)
+        left =
+            ap comes counts
+            ∙ counted (λ r. page (Wrote.Refused r) out) (h .p) (h .m) (filedOf h f out)
+            ∙ simp (short, le-ltb _ _ small, sym all-known ∙ not-false b kinds)
 
-        module _ (p-low : 1 ≤ h .p) where
-          pub many-processes : mostProcesses < h .p → page (Wrote.Refused Refusal.ProcessCount) out ≡ writeOf h f out
-          unfolding writeOf
-          many-processes g = simp (short, le-ltb _ _ few, fine, le-leb _ _ p-low, lt-leb _ _ g)
+        pub not-counted : (r : Refusal) → c ≡ Counts.Refused r → page (Wrote.Refused r) out ≡ writeOf h f out
+        not-counted r e = ap comes (sym e) ∙ left
 
-          module _ (p-high : h .p ≤ mostProcesses) where
-            pub no-cell : h .m < 1 → page (Wrote.Refused Refusal.CellCount) out ≡ writeOf h f out
-            unfolding writeOf
-            no-cell g = simp (short, le-ltb _ _ few, fine, le-leb _ _ p-low, le-leb _ _ p-high, lt-leb _ _ g)
-
-            module _ (m-low : 1 ≤ h .m) where
-              m-high : leb (h .m) mostCells ≡ true
-              m-high = le-leb (h .m) mostCells (omega arith)
-
-              pub no-room : length out < headerBytes + recordBytes * n → page (Wrote.Refused Refusal.NoRoom) out ≡ writeOf h f out
-              unfolding writeOf
-              no-room g =
-                  simp (short, le-ltb _ _ few, fine, le-leb _ _ p-low, le-leb _ _ p-high, le-leb _ _ m-low, m-high, lt-ltb (length out) (length (fileOf h f)) (omega (arith, long)))
-
-              pub written : (o o′ : List ℕ) (a b : ℕ) → headerBytes + recordBytes * n ≤ length out → Laid out 0 headerBytes (headBytes h) o a
-                  → Laid o a (recordBytes * n) (entriesBelow f n) o′ b → page (Wrote.Bytes b) o′ ≡ writeOf h f out
-              unfolding fileOf
-              written o o′ a b g l k =
-                  let all = laid-then out o o′ (headBytes h) (entriesBelow f n) 0 headerBytes (recordBytes * n) a b (omega arith) l k in
-                  let whole : fileOf h f ≡ headBytes h ++ entriesBelow f n = rw is in
-                  let ends : b ≡ length (fileOf h f) = omega (arith, all .ends, long) in
-                  let shows : o′ ≡ splice out 0 (fileOf h f) = all .shows ∙ rw whole in
-                  let all-fine : Fine h f out =
-                  record { fits = omega (arith, long); few = few; known = fine; p-low = p-low; p-high = p-high; m-low = m-low; room = omega (arith, long) } in
-                  rw (ends, shows) (sym (put h f out all-fine))
+        pub left-to-room : (p : Page) → c ≡ Counts.Fit → p ≡ filedOf h f out → p ≡ writeOf h f out
+        left-to-room p e g = g ∙ ap comes (sym e) ∙ left

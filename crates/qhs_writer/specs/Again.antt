@@ -5,9 +5,10 @@ use mathlib.Core.List.{List, [], _∷_, _++_}
 use lib.Dec.{ltb, eqb}
 use Rattle.logic.specs.Pick.{pick}
 use Rattle.qhs.specs.declared.Record.{Record}
-use Rattle.qhs.specs.Qhs.{headerBytes, recordBytes, byteAt, recordStart, recordAt, recordsIn}
+use Rattle.qhs.specs.Qhs.{version1, recordStart, recordAt, recordsIn}
+use Rattle.byte_lists.specs.Bytes.{byteAt}
 use Rattle.qhs_writer.specs.declared.Entry.{Entry}
-use Rattle.qhs_writer.specs.Writer.{Fields, fields}
+use Rattle.qhs_writer.specs.Writer.{headerBytes, recordBytes, Fields, fields}
 
 -- What a function gives for each number below n, in rising order.
 unfoldable pub listed : ℕ → (ℕ → ℕ) → List ℕ
@@ -17,7 +18,11 @@ listed (suc n) f = listed n f ++ (f n ∷ [])
 -- The fields of a file's first n records, a list for each.
 abbrev pub fieldsOf : List ℕ → ℕ → Fields
 fieldsOf bytes n =
-    fields (listed n (λ k. recordAt bytes k .kind)) (listed n (λ k. recordAt bytes k .process)) (listed n (λ k. recordAt bytes k .cell)) (listed n (λ k. recordAt bytes k .value))
+    fields
+    (listed n (λ k. recordAt bytes k .kind))
+    (listed n (λ k. recordAt bytes k .process))
+    (listed n (λ k. recordAt bytes k .cell))
+    (listed n (λ k. recordAt bytes k .value))
 
 -- A record that was written, as the reader gives it.
 abbrev pub readAs : Entry → Record
@@ -34,8 +39,8 @@ keptAt bytes start j = pick (ltb j (ignoredFrom (byteAt bytes start))) (byteAt b
 
 unfoldable pub zeroedBelow : List ℕ → ℕ → List ℕ
 zeroedBelow bytes zero = []
-zeroedBelow bytes (suc n) = zeroedBelow bytes n ++ listed recordBytes (keptAt bytes (recordStart n))
+zeroedBelow bytes (suc n) = zeroedBelow bytes n ++ listed recordBytes (keptAt bytes (recordStart version1 n))
 
 -- The same bytes with the ignored fields put to zero: the header's, then each record's.
 unfoldable pub zeroed : List ℕ → List ℕ
-zeroed bytes = listed headerBytes (byteAt bytes) ++ zeroedBelow bytes (recordsIn bytes)
+zeroed bytes = listed headerBytes (byteAt bytes) ++ zeroedBelow bytes (recordsIn version1 bytes)

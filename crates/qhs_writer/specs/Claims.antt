@@ -8,9 +8,10 @@ use Rattle.refusals.specs.declared.Refusal.{Refusal}
 use Rattle.refusals.specs.declared.Refusal.the-variants as Refusal
 use Rattle.qhs.specs.declared.Header.{Header}
 use Rattle.qhs.specs.declared.Reading.the-variants as Reading
-use Rattle.qhs.specs.Qhs.{recordAt, readOf}
-use Rattle.qhs.specs.Laws.{Bytes, Words}
-use Rattle.text.specs.Text.{splice}
+use Rattle.qhs.specs.Qhs.{mostRecords, recordAt, readOf}
+use Rattle.qhs.specs.Laws.{Words}
+use Rattle.byte_lists.specs.Digits.{Bytes}
+use Rattle.byte_lists.specs.Bytes.{splice}
 use Rattle.qhs_writer.specs.declared.Wrote.{Wrote}
 use Rattle.qhs_writer.specs.declared.Wrote.the-variants as Wrote
 use Rattle.qhs_writer.specs.Writer.{Fields, count, entryAt, needed, page, writeOf}
@@ -30,7 +31,7 @@ BytesAfterStay =
 
 -- 16: of more than 8,189 records nothing else is looked at.
 abbrev pub OverLong : Type 0
-OverLong = (h : Header) (f : Fields) (out : List ℕ) → 8189 < count f → writeOf h f out ≡ page (Wrote.Refused Refusal.FileTooLong) out
+OverLong = (h : Header) (f : Fields) (out : List ℕ) → mostRecords < count f → writeOf h f out ≡ page (Wrote.Refused Refusal.FileTooLong) out
 
 -- A refusal writes nothing.
 abbrev pub RefusedFile : Type 0

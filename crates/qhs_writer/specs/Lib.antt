@@ -4,7 +4,6 @@ pub mod Sizes
 pub mod Again
 pub mod Claims
 pub mod Outcomes
-pub mod Digits
 pub mod WrittenRead
 pub mod ReadWritten
 pub mod Samples

@@ -8,16 +8,15 @@ use native.Mathlib.Omega.{arith}
 use lib.ListN.{length, take, drop}
 use lib.Seq.{take-append-seam, drop-append-seam}
 use borrow.Author.Tests.{ltb-false, lt-ltb, le-ltb, le-leb, not-false}
-use Rattle.numbers.specs.Numbers.{mostProcesses, mostCells}
 use Rattle.refusals.specs.Laws.{past}
 use Rattle.refusals.specs.Orders.{Rule, orders}
 use Rattle.logic.specs.Pick.{pick}
 use Rattle.refusals.specs.declared.Refusal.{Refusal}
 use Rattle.qhs.specs.declared.Header.{Header}
 use Rattle.qhs.specs.Qhs.{mostBytes, mostFileCells}
-use Rattle.qhs.specs.Laws.{within}
-use Rattle.text.specs.Text.{splice}
-use Rattle.text.specs.Places.{splice-length}
+use Rattle.qhs.specs.Laws.{Counted, none-counted}
+use Rattle.byte_lists.specs.Bytes.{splice}
+use Rattle.byte_lists.specs.Places.{splice-length}
 use Rattle.qhs_writer.specs.declared.Wrote.{Wrote}
 use Rattle.qhs_writer.specs.declared.Wrote.the-variants as Wrote
 use Rattle.qhs_writer.specs.Writer.{Fields, fileOf, allKnown, writeRefusals, Page, page, writeOf}
@@ -38,9 +37,7 @@ pub record Fine (h : Header) (f : Fields) (out : List ℕ) : Type 0 where
   pub fits : length (fileOf h f) ≤ mostBytes
   pub few : h .m ≤ mostFileCells
   pub known : allKnown f ≡ true
-  pub p-low : 1 ≤ h .p
-  pub p-high : h .p ≤ mostProcesses
-  pub m-low : 1 ≤ h .m
+  pub counts : Counted (h .p) (h .m)
   pub room : length (fileOf h f) ≤ length out
 
 abbrev pub filed : Header → Fields → List ℕ → Page
@@ -50,8 +47,17 @@ filed h f out = page (Wrote.Bytes (length (fileOf h f))) (splice out 0 (fileOf h
 pub written : (h : Header) (f : Fields) (out : List ℕ) → Fine h f out → writeOf h f out ≡ filed h f out
 unfolding writeOf
 written h f out g =
-    let high : h .m ≤ mostCells = omega (arith, g .few) in
-    simp (le-ltb _ _ (g .fits), le-ltb _ _ (g .few), g .known, le-leb _ _ (g .p-low), le-leb _ _ (g .p-high), le-leb _ _ (g .m-low), le-leb _ _ high, le-ltb _ _ (g .room))
+    let q = g .counts in
+    simp (
+      le-ltb _ _ (g .fits),
+      le-ltb _ _ (g .few),
+      g .known,
+      le-leb _ _ (q .p-low),
+      le-leb _ _ (q .p-high),
+      le-leb _ _ (q .m-low),
+      le-leb _ _ (q .m-high),
+      le-ltb _ _ (g .room),
+    )
 
 -- and only then
 apart : (r : Refusal) (out o : List ℕ) (n : ℕ) → page (Wrote.Refused r) out ≡ page (Wrote.Bytes n) o → ⊥
@@ -61,16 +67,13 @@ pub fine : (h : Header) (f : Fields) (out : List ℕ) (n : ℕ) (o : List ℕ) �
 unfolding writeOf
 fine h f out n o e =
     let none = past (λ r. page (Wrote.Refused r) out) (writeRefusals h f out) (filed h f out) (page (Wrote.Bytes n) o) (λ r. apart r out o n) (sym e) .0 in
-    let p-in = within (h .p) mostProcesses (none .1 .1 .1 .0) in
-    let m-in = within (h .m) mostCells (none .1 .1 .1 .1 .0) in
+    let counts = none .1 .1 .1 in
     record {
       fits = ltb-false mostBytes (length (fileOf h f)) (none .0);
       few = ltb-false mostFileCells (h .m) (none .1 .0);
       known = not-false (allKnown f) (none .1 .1 .0);
-      p-low = p-in .0;
-      p-high = p-in .1;
-      m-low = m-in .0;
-      room = ltb-false (length out) (length (fileOf h f)) (none .1 .1 .1 .1 .1 .0);
+      counts = none-counted (h .p) (h .m) (counts .0, (counts .1 .0, tt));
+      room = ltb-false (length out) (length (fileOf h f)) (counts .1 .1 .0);
     }
 
 -- the file, and what stands after it

@@ -16,16 +16,17 @@ use Rattle.logic.specs.BelowLaws.{below-all}
 use Rattle.logic.specs.Pick.{pick}
 use Rattle.qhs.specs.declared.Header.{Header}
 use Rattle.qhs.specs.declared.Reading.the-variants as Reading
-use Rattle.qhs.specs.Qhs.{headerBytes, recordBytes, version, mostKind, byteAt, numberAt, marked, versionOf, headerOf, recordStart, recordAt, recordsIn}
-use Rattle.qhs.specs.Laws.{Bytes, Schedule, schedule, number-one}
-use Rattle.text.specs.Text.{splice}
+use Rattle.qhs.specs.Qhs.{version1, mostKind, marked, versionOf, headerOf, recordStart, recordIn, recordAt, recordsIn}
+use Rattle.byte_lists.specs.Bytes.{byteAt, numberAt, splice, bytesOf}
+use Rattle.qhs.specs.Laws.{Schedule, schedule}
+use Rattle.byte_lists.specs.Digits.{Bytes, number-one, part, bytes-of}
 use Rattle.qhs_writer.specs.declared.Entry.{Entry}
 use Rattle.qhs_writer.specs.declared.Wrote.the-variants as Wrote
-use Rattle.qhs_writer.specs.Writer.{count, entryAt, bytesOf, mark, frontBytes, backBytes, headBytes, stepKind, writeKind, needed, entryBytes, entriesBelow, fileOf, known, allKnown, page}
+use Rattle.qhs_writer.specs.Writer.{headerBytes, recordBytes, version, count, entryAt, mark, frontBytes, backBytes, headBytes}
+use Rattle.qhs_writer.specs.Writer.{stepKind, writeKind, needed, entryBytes, entriesBelow, fileOf, known, allKnown, page}
 use Rattle.qhs_writer.specs.Again.{listed, fieldsOf, ignoredFrom, keptAt, zeroedBelow, zeroed}
 use Rattle.qhs_writer.specs.Claims.{ReadIsWritten}
 use Rattle.qhs_writer.specs.Sizes.{file-length}
-use Rattle.qhs_writer.specs.Digits.{part, bytes-of}
 use Rattle.qhs_writer.specs.Outcomes.{Fine, written}
 
 -- ---- lists by their numbers
@@ -61,7 +62,7 @@ module _ (s : List ℕ) (b : Bytes s) (m : marked s ≡ true) (v : versionOf s �
   version-bytes : bytesOf 2 version ≡ part s 3 2
   version-bytes = ap (λ (n : ℕ). bytesOf 2 n) (sym v) ∙ bytes-of s 3 2 b
 
-  head-again : headBytes (headerOf s) ≡ listed headerBytes (byteAt s)
+  head-again : headBytes (headerOf version1 s) ≡ listed headerBytes (byteAt s)
   unfolding headBytes frontBytes backBytes listed part
   head-again =
       append (append mark-is (append version-bytes (append (bytes-of s 5 1 b) (bytes-of s 6 2 b))))
@@ -130,34 +131,45 @@ module _ (s : List ℕ) (at : ℕ) (b : Bytes s) where
 -- ---- the records
 
 module _ (s : List ℕ) (n : ℕ) (b : Bytes s) where
-  entry-is : (k : ℕ) → k < n → entryAt (fieldsOf s n) k ≡ entryIn s (recordStart k)
-  unfolding recordAt
+  entry-is : (k : ℕ) → k < n → entryAt (fieldsOf s n) k ≡ entryIn s (recordStart version1 k)
+  unfolding recordIn
   entry-is k h =
-      rw (listed-at n k (λ i. recordAt s i .kind) h, listed-at n k (λ i. recordAt s i .process) h, listed-at n k (λ i. recordAt s i .cell) h, listed-at n k (λ i. recordAt s i .value) h)
+      rw (
+        listed-at n k (λ i. recordAt s i .kind) h,
+        listed-at n k (λ i. recordAt s i .process) h,
+        listed-at n k (λ i. recordAt s i .cell) h,
+        listed-at n k (λ i. recordAt s i .value) h,
+      )
 
-  module _ (kinds : (k : ℕ) → k < n → byteAt s (recordStart k) ≤ mostKind) where
+  module _ (kinds : (k : ℕ) → k < n → byteAt s (recordStart version1 k) ≤ mostKind) where
     records-again : (k : ℕ) → k ≤ n → entriesBelow (fieldsOf s n) k ≡ zeroedBelow s k
     unfolding entriesBelow zeroedBelow
     records-again zero h = refl
     records-again (suc k) h =
         append (records-again k (omega arith))
-        (ap (λ (e : Entry). entryBytes (needed e)) (entry-is k (omega arith)) ∙ record-again s (recordStart k) b (kinds k (omega arith)))
+        (ap (λ (e : Entry). entryBytes (needed e)) (entry-is k (omega arith)) ∙ record-again s (recordStart version1 k) b (kinds k (omega arith)))
 
 many : (s : List ℕ) (n : ℕ) → count (fieldsOf s n) ≡ n
 many s n =
-    omega (arith, listed-length n (λ k. recordAt s k .kind), listed-length n (λ k. recordAt s k .process), listed-length n (λ k. recordAt s k .cell), listed-length n (λ k. recordAt s k .value))
+    omega (
+      arith,
+      listed-length n (λ k. recordAt s k .kind),
+      listed-length n (λ k. recordAt s k .process),
+      listed-length n (λ k. recordAt s k .cell),
+      listed-length n (λ k. recordAt s k .value),
+    )
 
 -- ---- the whole file
 
-module _ (s : List ℕ) (h : Header) (n : ℕ) (b : Bytes s) (g : Schedule s h n) where
-  kind-low : (k : ℕ) → k < n → byteAt s (recordStart k) ≤ mostKind
-  unfolding recordAt
-  kind-low k l = rw (number-one s (recordStart k)) at (g .kinds k l)
+module _ (s : List ℕ) (h : Header) (n : ℕ) (b : Bytes s) (g : Schedule version1 s h n) where
+  kind-low : (k : ℕ) → k < n → byteAt s (recordStart version1 k) ≤ mostKind
+  unfolding recordIn
+  kind-low k l = rw (number-one s (recordStart version1 k)) at (g .kinds k l)
 
   same : fileOf h (fieldsOf s n) ≡ zeroed s
   unfolding fileOf zeroed
   same =
-      let all : recordsIn s ≡ n = omega (arith, g .bytes) in
+      let all : recordsIn version1 s ≡ n = omega (arith, g .bytes) in
       append (ap headBytes (g .header) ∙ head-again s b (g .mark) (g .version-is))
       (ap (λ (k : ℕ). entriesBelow (fieldsOf s n) k) (many s n) ∙ records-again s n b kind-low n (omega arith) ∙ ap (λ (k : ℕ). zeroedBelow s k) (sym all))
 
@@ -174,11 +186,9 @@ module _ (s : List ℕ) (h : Header) (n : ℕ) (b : Bytes s) (g : Schedule s h n
   is-fine : (out : List ℕ) → length s ≤ length out → Fine h (fieldsOf s n) out
   is-fine out room = record {
     fits = omega (arith, long, g .bytes-high);
-    few = g .m-high;
+    few = g .m-few;
     known = all-known;
-    p-low = g .p-low;
-    p-high = g .p-high;
-    m-low = g .m-low;
+    counts = g .counts;
     room = omega (arith, long);
   }
 

@@ -8,9 +8,9 @@ use Rattle.logic.specs.Below.{below}
 use Rattle.refusals.specs.declared.Refusal.{Refusal}
 use Rattle.refusals.specs.declared.Refusal.the-variants as Refusal
 use Rattle.qhs.specs.declared.Header.{Header}
-use Rattle.text.specs.Text.{word, splice}
+use Rattle.byte_lists.specs.Bytes.{word, splice, bytesOf}
 use Rattle.qhs_writer.specs.declared.Wrote.the-variants as Wrote
-use Rattle.qhs_writer.specs.Writer.{Fields, fields, bytesOf, frontBytes, backBytes, headBytes, entryBytes, entriesBelow, fileOf, Page, page, writeOf}
+use Rattle.qhs_writer.specs.Writer.{Fields, fields, frontBytes, backBytes, headBytes, entryBytes, entriesBelow, fileOf, Page, page, writeOf}
 
 pub record Sample : Type 0 where
   pub header : Header

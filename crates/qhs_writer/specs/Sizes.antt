@@ -5,9 +5,10 @@ use Prim.Native.Nat.{ℕ, zero, suc, _+_, _*_}
 use native.Mathlib.Omega.{arith}
 use lib.ListN.{length, length-append}
 use Rattle.qhs.specs.declared.Header.{Header}
-use Rattle.qhs.specs.Qhs.{headerBytes, recordBytes}
 use Rattle.qhs_writer.specs.declared.Entry.{Entry}
-use Rattle.qhs_writer.specs.Writer.{Fields, count, entryAt, bytesOf, frontBytes, backBytes, headBytes, needed, entryBytes, entriesBelow, fileOf}
+use Rattle.qhs_writer.specs.Writer.{headerBytes, recordBytes, Fields, count, entryAt, frontBytes, backBytes}
+use Rattle.qhs_writer.specs.Writer.{headBytes, needed, entryBytes, entriesBelow, fileOf}
+use Rattle.byte_lists.specs.Bytes.{bytesOf}
 
 pub head-length : (h : Header) → length (headBytes h) ≡ headerBytes
 unfolding headBytes frontBytes backBytes bytesOf

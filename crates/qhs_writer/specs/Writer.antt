@@ -1,20 +1,34 @@
 -- The schedule file's writer, version 1: a header and records as bytes in a lent buffer: document 02, W2.
 -- Assumes nothing.
-use Prim.Native.Nat.{ℕ, zero, suc, _/_, _%_, min}
+use Prim.Native.Nat.{ℕ, zero, suc, min}
 use mathlib.Core.Bool.{Bool, not}
 use mathlib.Core.List.{List, [], _∷_, _++_}
 use lib.Dec.{leb, ltb, eqb}
 use lib.ListN.{length, getD}
+use Rattle.byte_lists.specs.Bytes.{bytesOf}
 use Rattle.logic.specs.Below.{below}
 use Rattle.refusals.specs.Orders.{Rule, _gives_, orders}
 use Rattle.logic.specs.Pick.{pick}
 use Rattle.refusals.specs.declared.Refusal.the-variants as Refusal
 use Rattle.qhs.specs.declared.Header.{Header}
-use Rattle.qhs.specs.Qhs.{mostBytes, version, mostFileCells, mostKind, openRefusals}
-use Rattle.text.specs.Text.{word, splice}
+use Rattle.qhs.specs.Qhs.{version1, mostBytes, mostFileCells, mostKind, openRefusals}
+use Rattle.byte_lists.specs.Bytes.{word, splice}
 use Rattle.qhs_writer.specs.declared.Entry.{Entry}
 use Rattle.qhs_writer.specs.declared.Wrote.{Wrote}
 use Rattle.qhs_writer.specs.declared.Wrote.the-variants as Wrote
+
+-- The writer's files are of version 1, with 16-bit cells.
+abbrev pub version : ℕ
+version = version1 .version
+
+abbrev pub headerBytes : ℕ
+headerBytes = version1 .header
+
+abbrev pub recordBytes : ℕ
+recordBytes = version1 .stride
+
+abbrev pub cellBytes : ℕ
+cellBytes = version1 .cell
 
 -- The records as they are handed in: a slice for each field, and as many records as the shortest slice has.
 pub record Fields : Type 0 where
@@ -33,17 +47,12 @@ count f = min (length (f .kinds)) (min (length (f .processes)) (min (length (f .
 abbrev pub entryAt : Fields → ℕ → Entry
 entryAt f k = record { kind = getD (f .kinds) k 0; process = getD (f .processes) k 0; cell = getD (f .cells) k 0; value = getD (f .values) k 0 }
 
--- Little-endian: the bytes of a number, `width` of them.
-unfoldable pub bytesOf : ℕ → ℕ → List ℕ
-bytesOf zero n = []
-bytesOf (suc width) n = n % 256 ∷ bytesOf width (n / 256)
-
 abbrev pub mark : List ℕ
 mark = word "QHS"
 
 -- Bytes 0 to 2 "QHS"; 3, 4 version 1; 5 p; 6, 7 m;
 unfoldable pub frontBytes : Header → List ℕ
-frontBytes h = mark ++ (bytesOf 2 version ++ (bytesOf 1 (h .p) ++ bytesOf 2 (h .m)))
+frontBytes h = mark ++ (bytesOf 2 version ++ (bytesOf 1 (h .p) ++ bytesOf cellBytes (h .m)))
 
 -- 8 to 11 first; 12 to 15 step; 16 to 23 a 64-bit fill.
 unfoldable pub backBytes : Header → List ℕ
@@ -69,7 +78,7 @@ needed e = record {
 
 -- Then records of 8 bytes: kind, process, cell (2 bytes), value (4 bytes).
 unfoldable pub entryBytes : Entry → List ℕ
-entryBytes e = bytesOf 1 (e .kind) ++ (bytesOf 1 (e .process) ++ (bytesOf 2 (e .cell) ++ bytesOf 4 (e .value)))
+entryBytes e = bytesOf 1 (e .kind) ++ (bytesOf 1 (e .process) ++ (bytesOf cellBytes (e .cell) ++ bytesOf 4 (e .value)))
 
 unfoldable pub entriesBelow : Fields → ℕ → List ℕ
 entriesBelow f zero = []

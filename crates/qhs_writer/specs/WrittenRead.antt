@@ -1,6 +1,6 @@
 -- What the writer writes, the reader accepts and gives back, ignored fields as zero.
 -- Assumes nothing.
-use Prim.Native.Nat.{ℕ, zero, suc, _+_, _*_, _%_, _^_, _<_, _≤_}
+use Prim.Native.Nat.{ℕ, zero, suc, _+_, _%_, _^_, _<_, _≤_}
 use mathlib.Core.Path.{_≡_, refl, sym, ap, _∙_}
 use mathlib.Core.Bool.{Bool, true, false}
 use mathlib.Core.List.{List, [], _++_, append-assoc}
@@ -10,20 +10,23 @@ use native.Mathlib.Omega.{arith}
 use lib.Dec.{eqb}
 use lib.ListN.{length, length-append}
 use borrow.Author.Tests.{le-ltb, le-leb, leb-true, eq-eqb}
-use Rattle.numbers.specs.Numbers.{mostProcesses, mostCells}
+use Rattle.numbers.specs.Numbers.{mostProcesses}
 use Rattle.logic.specs.BelowLaws.{below-all, below-at}
 use Rattle.logic.specs.Pick.{pick}
 use Rattle.qhs.specs.declared.Header.{Header}
 use Rattle.qhs.specs.declared.Reading.{Reading}
 use Rattle.qhs.specs.declared.Reading.the-variants as Reading
-use Rattle.qhs.specs.Qhs.{headerBytes, recordBytes, mostBytes, version, mostFileCells, mostKind, numberAt, marked, versionOf, headerOf, fieldsAt, recordStart, recordAt, bodyBytes, recordsIn, kindFits, kindsFit, readOf}
-use Rattle.qhs.specs.Laws.{Words}
+use Rattle.qhs.specs.Qhs.{version1, mostFileCells, mostKind, marked, versionOf, headerOf, fieldsAt, recordStart}
+use Rattle.qhs.specs.Qhs.{recordIn, recordAt, bodyBytes, recordsIn, kindFits, kindsFit, readIn, readOf}
+use Rattle.byte_lists.specs.Bytes.{numberAt, bytesOf}
+use Rattle.qhs.specs.Laws.{Words, Counted, Schedule}
 use Rattle.qhs_writer.specs.declared.Entry.{Entry}
-use Rattle.qhs_writer.specs.Writer.{Fields, count, entryAt, bytesOf, frontBytes, backBytes, headBytes, stepKind, writeKind, needed, entryBytes, entriesBelow, fileOf, known}
+use Rattle.qhs_writer.specs.Writer.{headerBytes, recordBytes, version, Fields, count, entryAt, frontBytes, backBytes}
+use Rattle.qhs_writer.specs.Writer.{headBytes, stepKind, writeKind, needed, entryBytes, entriesBelow, fileOf, known}
 use Rattle.qhs_writer.specs.Again.{readAs}
 use Rattle.qhs_writer.specs.Claims.{Typed, WrittenIsRead}
 use Rattle.qhs_writer.specs.Sizes.{head-length, entries-length, file-length}
-use Rattle.qhs_writer.specs.Digits.{number-of, number-front, number-back}
+use Rattle.byte_lists.specs.Digits.{number-of, number-front, number-back}
 use Rattle.qhs_writer.specs.Outcomes.{Fine, fine, file-is}
 
 -- ---- a record
@@ -35,7 +38,7 @@ record Fits (e : Entry) : Type 0 where
   cell : e .cell < 256 ^ 2
   value : e .value < 256 ^ 4
 
-fields-are : (e : Entry) → Fits e → fieldsAt (entryBytes e) 0 ≡ readAs e
+fields-are : (e : Entry) → Fits e → fieldsAt version1 (entryBytes e) 0 ≡ readAs e
 unfolding numberAt bytesOf entryBytes
 fields-are e w =
     let a : numberAt (entryBytes e) 0 1 ≡ e .kind = number-of 1 (e .kind) (bytesOf 1 (e .process) ++ (bytesOf 2 (e .cell) ++ bytesOf 4 (e .value))) (w .kind) in
@@ -46,11 +49,16 @@ fields-are e w =
 
 -- ---- a record at its place
 
-fields-front : (xs ys : List ℕ) (at : ℕ) → at + recordBytes ≤ length xs → fieldsAt (xs ++ ys) at ≡ fieldsAt xs at
+fields-front : (xs ys : List ℕ) (at : ℕ) → at + recordBytes ≤ length xs → fieldsAt version1 (xs ++ ys) at ≡ fieldsAt version1 xs at
 fields-front xs ys at h =
-    rw (number-front xs ys at 1 (omega arith), number-front xs ys (at + 1) 1 (omega arith), number-front xs ys (at + 2) 2 (omega arith), number-front xs ys (at + 4) 4 (omega arith))
+    rw (
+      number-front xs ys at 1 (omega arith),
+      number-front xs ys (at + 1) 1 (omega arith),
+      number-front xs ys (at + 2) 2 (omega arith),
+      number-front xs ys (at + 4) 4 (omega arith),
+    )
 
-fields-back : (xs ys : List ℕ) (at : ℕ) → at ≡ length xs → fieldsAt (xs ++ ys) at ≡ fieldsAt ys 0
+fields-back : (xs ys : List ℕ) (at : ℕ) → at ≡ length xs → fieldsAt version1 (xs ++ ys) at ≡ fieldsAt version1 ys 0
 fields-back xs ys at e =
     let z : length xs + 0 ≡ length xs = omega arith in
     let a : numberAt (xs ++ ys) at 1 ≡ numberAt ys 0 1 = rw (e, ← z) (number-back xs ys 0 1) in
@@ -60,25 +68,25 @@ module _ (h : Header) (f : Fields) where
   abbrev upTo : ℕ → List ℕ
   upTo n = headBytes h ++ entriesBelow f n
 
-  up-length : (n : ℕ) → length (upTo n) ≡ recordStart n
+  up-length : (n : ℕ) → length (upTo n) ≡ recordStart version1 n
   up-length n = omega (arith, length-append (headBytes h) (entriesBelow f n), head-length h, entries-length f n)
 
-  entry-there : (n k : ℕ) → k < n → fieldsAt (upTo n) (recordStart k) ≡ fieldsAt (entryBytes (needed (entryAt f k))) 0
+  entry-there : (n k : ℕ) → k < n → fieldsAt version1 (upTo n) (recordStart version1 k) ≡ fieldsAt version1 (entryBytes (needed (entryAt f k))) 0
   unfolding entriesBelow
   entry-there zero k l = absurd (not-suc-le-zero l)
   entry-there (suc n) k l =
       rw (← append-assoc (headBytes h) (entriesBelow f n) (entryBytes (needed (entryAt f n))))
       (⊎-elim
-      (λ (e : k ≡ n). rw e (fields-back (upTo n) (entryBytes (needed (entryAt f n))) (recordStart n) (sym (up-length n))))
+      (λ (e : k ≡ n). rw e (fields-back (upTo n) (entryBytes (needed (entryAt f n))) (recordStart version1 n) (sym (up-length n))))
       (λ (e : k < n).
-      fields-front (upTo n) (entryBytes (needed (entryAt f n))) (recordStart k) (omega (arith, up-length n))
+      fields-front (upTo n) (entryBytes (needed (entryAt f n))) (recordStart version1 k) (omega (arith, up-length n))
       ∙ entry-there n k e)
       (eq-or-lt-of-le (omega arith)))
 
 -- ---- the header
 
 module _ (h : Header) (w : Words h) (p-high : h .p ≤ mostProcesses) (m-high : h .m ≤ mostFileCells) (t : List ℕ) where
-  header-is : headerOf (headBytes h ++ t) ≡ h
+  header-is : headerOf version1 (headBytes h ++ t) ≡ h
   unfolding numberAt bytesOf headBytes frontBytes backBytes
   header-is =
       let p-is : numberAt (headBytes h ++ t) 5 1 ≡ h .p = number-of 1 (h .p) t (omega arith) in
@@ -98,25 +106,32 @@ head-version h t = refl
 
 -- ---- the whole file
 
--- nothing in a file's bytes speaks against it
-accepts : (s : List ℕ) (h : Header) (n : ℕ) → headerOf s ≡ h → length s ≡ headerBytes + recordBytes * n → length s ≤ mostBytes → marked s ≡ true
-    → versionOf s ≡ version → h .m ≤ mostFileCells → kindsFit s ≡ true → 1 ≤ h .p → h .p ≤ mostProcesses → 1 ≤ h .m
-    → readOf s ≡ Reading.Schedule h n
-unfolding readOf
-accepts s h n is long fits mark one few kinds p-low p-high m-low =
-    let whole : bodyBytes s % recordBytes ≡ 0 = omega arith in
-    let many : recordsIn s ≡ n = omega arith in
-    let begins : headerBytes ≤ length s = omega arith in
-    let p-is : headerOf s .p ≡ h .p = ap (λ (x : Header). x .p) is in
-    let m-is : headerOf s .m ≡ h .m = ap (λ (x : Header). x .m) is in
-    let p-low′ : 1 ≤ headerOf s .p = omega arith in
-    let p-high′ : headerOf s .p ≤ mostProcesses = omega arith in
-    let m-low′ : 1 ≤ headerOf s .m = omega arith in
-    let m-high′ : headerOf s .m ≤ mostCells = omega arith in
-    let few′ : headerOf s .m ≤ mostFileCells = omega arith in
-    let read : readOf s ≡ Reading.Schedule (headerOf s) (recordsIn s) =
-    simp (le-ltb _ _ fits, le-leb _ _ begins, mark, eq-eqb _ _ one, le-ltb _ _ few′, eq-eqb _ _ whole, kinds, le-leb _ _ p-low′, le-leb _ _ p-high′, le-leb _ _ m-low′, le-leb _ _ m-high′) in
-    read ∙ ap (λ (x : Header). Reading.Schedule x (recordsIn s)) is ∙ ap (λ (k : ℕ). Reading.Schedule h k) many
+-- nothing in a schedule's bytes speaks against it
+accepts : (s : List ℕ) (h : Header) (n : ℕ) → Schedule version1 s h n → readOf s ≡ Reading.Schedule h n
+unfolding readOf readIn
+accepts s h n g =
+    let whole : bodyBytes version1 s % recordBytes ≡ 0 = omega (arith, g .bytes) in
+    let many : recordsIn version1 s ≡ n = omega (arith, g .bytes) in
+    let begins : headerBytes ≤ length s = omega (arith, g .bytes) in
+    let q : Counted (headerOf version1 s .p) (headerOf version1 s .m) = rw (g .header) at (g .counts) in
+    let few : headerOf version1 s .m ≤ mostFileCells = rw (g .header) at (g .m-few) in
+    let known : kindsFit version1 s ≡ true =
+    below-all (recordsIn version1 s) (kindFits version1 s) (λ k l. le-leb _ _ (g .kinds k (omega (arith, many, l)))) in
+    let read : readOf s ≡ Reading.Schedule (headerOf version1 s) (recordsIn version1 s) =
+    simp (
+      le-ltb _ _ (g .bytes-high),
+      le-leb _ _ begins,
+      g .mark,
+      eq-eqb _ _ (g .version-is),
+      le-ltb _ _ few,
+      eq-eqb _ _ whole,
+      known,
+      le-leb _ _ (q .p-low),
+      le-leb _ _ (q .p-high),
+      le-leb _ _ (q .m-low),
+      le-leb _ _ (q .m-high),
+    ) in
+    read ∙ ap (λ (x : Header). Reading.Schedule x (recordsIn version1 s)) (sym (g .header)) ∙ ap (λ (k : ℕ). Reading.Schedule h k) many
 
 pick-below : (b : Bool) (x most : ℕ) → 0 < most → x < most → pick b 0 x < most
 pick-below true x most z h = z
@@ -131,7 +146,7 @@ module _ (h : Header) (f : Fields) (out : List ℕ) (t : Typed h f) (g : Fine h 
   kind-low k l = leb-true _ _ (below-at (count f) k (known (f .kinds)) l (g .known))
 
   record-is : (k : ℕ) → k < count f → recordAt (fileOf h f) k ≡ readAs (needed (entryAt f k))
-  unfolding recordAt fileOf
+  unfolding recordIn fileOf
   record-is k l =
       let low = kind-low k l in
       entry-there h f (count f) k l
@@ -143,18 +158,25 @@ module _ (h : Header) (f : Fields) (out : List ℕ) (t : Typed h f) (g : Fine h 
         value = below-pick (eqb (entryAt f k .kind) writeKind) (entryAt f k .value) (256 ^ 4) (omega arith) (t .values k);
       })
 
-  kinds-fit : kindsFit (fileOf h f) ≡ true
-  kinds-fit =
-      below-all (recordsIn (fileOf h f)) (kindFits (fileOf h f))
-      (λ k l.
-      let few : k < count f = omega (arith, file-length h f) in
-      rw (record-is k few) (le-leb _ _ (kind-low k few)))
+  file-schedule : Schedule version1 (fileOf h f) h (count f)
+  unfolding fileOf
+  file-schedule =
+      let rest = entriesBelow f (count f) in
+      let bytes = file-length h f in
+      record {
+        mark = head-marked h rest;
+        version-is = head-version h rest;
+        header = sym (header-is h (t .words) (g .counts .p-high) (g .few) rest);
+        counts = g .counts;
+        m-few = g .few;
+        bytes = bytes;
+        bytes-high = g .fits;
+        n-high = omega (arith, g .fits, bytes);
+        kinds = λ k l. rw (record-is k l) (kind-low k l);
+      }
 
   file-read : readOf (fileOf h f) ≡ Reading.Schedule h (count f)
-  unfolding fileOf
-  file-read =
-      accepts (fileOf h f) h (count f) (header-is h (t .words) (g .p-high) (g .few) (entriesBelow f (count f))) (file-length h f) (g .fits)
-      (head-marked h (entriesBelow f (count f))) (head-version h (entriesBelow f (count f))) (g .few) kinds-fit (g .p-low) (g .p-high) (g .m-low)
+  file-read = accepts (fileOf h f) h (count f) file-schedule
 
 pub what-is-written-is-read : WrittenIsRead
 what-is-written-is-read h f out n o t e =

@@ -4,15 +4,16 @@ ghost use Prim.Native.Nat.{_≤_};
 ghost use lib.ListN.{length};
 ghost use Rattle.logic.specs.Below.{below};
 ghost use Rattle.qhs_writer.specs.Writer.{fields, count, known, page, writeOf};
+ghost use Rattle.qhs_writer.specs.Inner.{Few, filedOf};
 
 mod put;
 
-use numbers::PROCESSES;
+use qhs::Counts;
 use qhs::FILE_CELLS;
-use qhs::HEADER_BYTES;
+use qhs::FILE_RECORDS;
 use qhs::Header;
 use qhs::LAST_KIND;
-use qhs::RECORD_BYTES;
+use qhs::VERSION_1;
 use refusals::Refusal;
 
 // A record as it is written. Its cell has 16 bits, whatever the reader's has.
@@ -28,9 +29,6 @@ pub enum Wrote {
     Bytes(usize),
     Refused(Refusal),
 }
-
-// The records that a file of 65,536 bytes has.
-pub const FILE_RECORDS: usize = 8189;
 
 // As many records as the shortest slice has.
 fn count(kinds: &[u8], processes: &[u8], cells: &[u16], values: &[u32]) -> usize
@@ -55,6 +53,28 @@ fn known(kinds: &[u8], n: usize) -> bool
     true
 }
 
+// Writes the file of a header and n records that is not refused, if there is room for it.
+fn filed(
+    h: Header,
+    kinds: &[u8],
+    processes: &[u8],
+    cells: &[u16],
+    values: &[u32],
+    n: usize,
+    out: &mut [u8],
+) -> Wrote
+    requires { ⌜ Few (fields (now kinds) (now processes) (now cells) (now values)) n ⌝ }
+    ensures { λ r. ⌜ page r (now (out .exit))
+        ≡ filedOf h (fields (now (kinds .entry)) (now (processes .entry)) (now (cells .entry)) (now (values .entry))) (now (out .entry)) ⌝ }
+{
+    if out.len() < VERSION_1.header + VERSION_1.stride * n {
+        return Wrote::Refused(Refusal::NoRoom);
+    }
+    let start = put::header(h, out);
+    let end = put::entries(kinds, processes, cells, values, n, start, out);
+    Wrote::Bytes(end)
+}
+
 // Writes the file of a header and records, which are handed in as a slice for each field. Fields that a kind doesn't need are put
 // to zero. A refusal writes nothing.
 pub fn write(
@@ -65,7 +85,8 @@ pub fn write(
     values: &[u32],
     out: &mut [u8],
 ) -> Wrote
-    ensures { λ r. ⌜ page r (now (out .exit)) ≡ writeOf h (fields (now (kinds .entry)) (now (processes .entry)) (now (cells .entry)) (now (values .entry))) (now (out .entry)) ⌝ }
+    ensures { λ r. ⌜ page r (now (out .exit))
+        ≡ writeOf h (fields (now (kinds .entry)) (now (processes .entry)) (now (cells .entry)) (now (values .entry))) (now (out .entry)) ⌝ }
 {
     let n = count(kinds, processes, cells, values);
     if FILE_RECORDS < n {
@@ -77,19 +98,8 @@ pub fn write(
     if !known(kinds, n) {
         return Wrote::Refused(Refusal::RecordKind);
     }
-    if h.p < 1 {
-        return Wrote::Refused(Refusal::ProcessCount);
+    match qhs::counts_of(h.p, h.m) {
+        Counts::Refused(r) => Wrote::Refused(r),
+        Counts::Fit => filed(h, kinds, processes, cells, values, n, out),
     }
-    if PROCESSES < h.p {
-        return Wrote::Refused(Refusal::ProcessCount);
-    }
-    if h.m < 1 {
-        return Wrote::Refused(Refusal::CellCount);
-    }
-    if out.len() < HEADER_BYTES + RECORD_BYTES * n {
-        return Wrote::Refused(Refusal::NoRoom);
-    }
-    let start = put::header(h, out);
-    let end = put::entries(kinds, processes, cells, values, n, start, out);
-    Wrote::Bytes(end)
 }

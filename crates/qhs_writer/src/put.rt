@@ -2,12 +2,12 @@
 ghost use mathlib.Core.Path.{_≡_};
 ghost use Prim.Native.Nat.{_+_, _*_, _%_, _≤_};
 ghost use lib.ListN.{length};
-ghost use Rattle.qhs.specs.Qhs.{headerBytes, recordBytes};
-ghost use Rattle.qhs_writer.specs.Writer.{fields, bytesOf, mark, frontBytes, backBytes, headBytes, entryBytes, entriesBelow, needed};
+ghost use Rattle.qhs_writer.specs.Writer.{headerBytes, recordBytes, fields, mark, frontBytes, backBytes, headBytes, entryBytes, entriesBelow, needed};
+ghost use Rattle.byte_lists.specs.Bytes.{bytesOf};
 ghost use Rattle.qhs_writer.specs.Inner.{Laid, Within};
 use super::Entry;
 use qhs::Header;
-use qhs::VERSION;
+use qhs::VERSION_1;
 
 // The kinds whose fields are looked at: a step needs no cell, and a write alone a value.
 const STEP: u8 = 0;
@@ -23,7 +23,8 @@ fn low_byte(n: u64) -> u8
 // The little-endian bytes of a number, `width` of them.
 fn number(out: &mut [u8], at: usize, width: usize, n: u64) -> usize
     requires { ⌜ at + width ≤ length (now out) ⌝ }
-    ensures { λ r. ⌜ Laid (now (out .entry)) at width (bytesOf width n) (now (out .exit)) r ⌝ }
+    ensures { λ r. ⌜ Laid (now (out .entry)) at width (bytesOf width n)
+        (now (out .exit)) r ⌝ }
 {
     let mut rest = n;
     let mut i: usize = 0;
@@ -40,7 +41,7 @@ fn mark(out: &mut [u8]) -> usize
     requires { ⌜ headerBytes ≤ length (now out) ⌝ }
     ensures { λ r. ⌜ Laid (now (out .entry)) 0 3 mark (now (out .exit)) r ⌝ }
 {
-    text::end_of(text::put_bytes(out, 0, b"QHS"))
+    byte_lists::end_of(byte_lists::put_bytes(out, 0, b"QHS"))
 }
 
 // The header up to its sizes.
@@ -49,9 +50,9 @@ fn front(h: Header, out: &mut [u8]) -> usize
     ensures { λ r. ⌜ Laid (now (out .entry)) 0 8 (frontBytes h) (now (out .exit)) r ⌝ }
 {
     let a = mark(out);
-    let b = number(out, a, 2, VERSION);
+    let b = number(out, a, 2, VERSION_1.version);
     let c = number(out, b, 1, h.p as u64);
-    number(out, c, 2, h.m as u64)
+    number(out, c, VERSION_1.cell, h.m as u64)
 }
 
 // The header's filling rule and its fill.
@@ -101,7 +102,7 @@ fn entry(e: Entry, at: usize, out: &mut [u8]) -> usize
 {
     let a = number(out, at, 1, e.kind as u64);
     let b = number(out, a, 1, e.process as u64);
-    let c = number(out, b, 2, e.cell as u64);
+    let c = number(out, b, VERSION_1.cell, e.cell as u64);
     number(out, c, 4, e.value as u64)
 }
 
@@ -116,7 +117,9 @@ pub fn entries(
     out: &mut [u8],
 ) -> usize
     requires { ⌜ Within (fields (now kinds) (now processes) (now cells) (now values)) n start (now out) ⌝ }
-    ensures { λ r. ⌜ Laid (now (out .entry)) start (recordBytes * n) (entriesBelow (fields (now (kinds .entry)) (now (processes .entry)) (now (cells .entry)) (now (values .entry))) n) (now (out .exit)) r ⌝ }
+    ensures { λ r. ⌜ Laid (now (out .entry)) start (recordBytes * n)
+        (entriesBelow (fields (now (kinds .entry)) (now (processes .entry)) (now (cells .entry)) (now (values .entry))) n)
+        (now (out .exit)) r ⌝ }
 {
     let mut at = start;
     let mut k: usize = 0;

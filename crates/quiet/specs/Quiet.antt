@@ -8,17 +8,15 @@ use Rattle.numbers.specs.Numbers.{mostProcesses}
 use Rattle.numbers.specs.declared.Cell.{Cell}
 use Rattle.logic.specs.Below.{below}
 use Rattle.logic.specs.Pick.{pick}
-use Rattle.lanes.specs.declared.Check.{Check}
 use Rattle.lanes.specs.declared.Check.the-variants as Check
 use Rattle.lanes.specs.declared.State.{State}
-use Rattle.lanes.specs.Ranges.{laneOf, idle, stateFits}
+use Rattle.lanes.specs.Ranges.{laneOf, marksOf, idle, stateFits}
 use Rattle.steps.specs.declared.Found.{Found}
 use Rattle.steps.specs.declared.Found.the-variants as Found
 use Rattle.steps.specs.declared.Next.{Next}
 use Rattle.steps.specs.declared.Next.the-variants as Next
 use Rattle.steps.specs.Memory.{Memory}
 use Rattle.steps.specs.Steps.{check, notWrittenRead, writtenRead}
-use Rattle.acts.specs.Calls.{namedIn}
 use Rattle.quiet.specs.declared.Quarter.{Quarter}
 use Rattle.quiet.specs.declared.Quarter.the-variants as Quarter
 use Rattle.quiet.specs.declared.Scan.{Scan}
@@ -26,7 +24,7 @@ use Rattle.quiet.specs.declared.Scan.the-variants as Scan
 
 -- No operation is under way in any lane below p.
 abbrev pub atRest : State → Bool
-atRest s = below (s .p) (λ (q : ℕ). idle (laneOf s q .op))
+atRest s = below (s .terms .p) (λ (q : ℕ). idle (laneOf s q .op))
 
 -- 9 (state) comes before 10.
 abbrev pub scanOf : State → Scan
@@ -43,22 +41,19 @@ atWork Scan.Unfit = false
 atWork Scan.AtWork = true
 atWork Scan.AtRest = false
 
--- The marks in force that the next step of a check reads; a process that has no lane has none.
+-- The marks in force of process q; one that has no lane has none.
 abbrev pub marksAt : State → ℕ → ℕ
-marksAt s q = pick (ltb q mostProcesses) (laneOf s q .marks) 0
-
-abbrev pub seenIn : State → Check → ℕ
-seenIn s c = marksAt s (namedIn c)
+marksAt s q = pick (ltb q mostProcesses) (marksOf s q) 0
 
 -- One more step of a check that has not ended.
-abbrev pub onward : State → ℕ → List ℕ → List ℕ → List ℕ → Found → Found
+abbrev pub onward : State → Cell → List ℕ → List ℕ → List ℕ → Found → Found
 onward s i links directory pool Found.Outside = Found.Outside
-onward s i links directory pool (Found.On c) = check (s .p) (seenIn s c) links directory pool i c
+onward s i links directory pool (Found.On c) = check (s .terms) (marksAt s) links directory pool i c
 onward s i links directory pool (Found.NotWritten link) = Found.NotWritten link
 onward s i links directory pool Found.Written = Found.Written
 
 -- The check of cell i, run to its end: four steps at the most.
-unfoldable pub lookedAt : State → ℕ → List ℕ → List ℕ → List ℕ → Found
+unfoldable pub lookedAt : State → Cell → List ℕ → List ℕ → List ℕ → Found
 lookedAt s i links directory pool =
     onward s i links directory pool
     (onward s i links directory pool (onward s i links directory pool (onward s i links directory pool (Found.On Check.Link))))
@@ -74,8 +69,8 @@ quarterOf (Next.Asked b) = Quarter.Outside
 abbrev pub readingAs : State → Cell → List ℕ → Found → Quarter
 readingAs s i readings Found.Outside = Quarter.Outside
 readingAs s i readings (Found.On c) = Quarter.Outside
-readingAs s i readings (Found.NotWritten link) = quarterOf (notWrittenRead (s .first) (s .step) i)
-readingAs s i readings Found.Written = quarterOf (writtenRead readings i)
+readingAs s i readings (Found.NotWritten link) = quarterOf (notWrittenRead (s .terms) i)
+readingAs s i readings Found.Written = quarterOf (writtenRead (s .terms) readings i)
 
 abbrev pub readingAt : State → Cell → Memory → Quarter
-readingAt s i mem = readingAs s i (mem .readings) (lookedAt s (i .0) (mem .links) (mem .directory) (mem .pool))
+readingAt s i mem = readingAs s i (mem .readings) (lookedAt s i (mem .links) (mem .directory) (mem .pool))

@@ -1,11 +1,13 @@
 // A grid at rest: whether no operation is under way, and what each cell then holds.
 ghost use mathlib.Core.Path.{_≡_};
 ghost use Rattle.steps.specs.Memory.{memory};
-ghost use Rattle.quiet.specs.Quiet.{marksAt, seenIn, onward, lookedAt, quarterOf, readingAs, readingAt, unfit, atWork, scanOf};
+ghost use Rattle.acts.specs.Inner.{namedIn};
+ghost use Rattle.quiet.specs.Quiet.{marksAt, onward, lookedAt, quarterOf, readingAs, readingAt, unfit, atWork, scanOf};
 use acts::begins;
 use lanes::Check;
 use lanes::State;
 use numbers::Cell;
+use numbers::Mark;
 use numbers::PROCESSES;
 use steps::Found;
 use steps::Next;
@@ -30,14 +32,15 @@ pub enum Quarter {
 pub fn scan_of(s: State) -> Scan
     ensures { λ r. ⌜ r ≡ scanOf s ⌝ }
 {
-    let mut fits = lanes::sizes_fit(s.p, s.m, s.top);
-    let end = begins::lanes_below(fits, s.p);
+    let z = s.terms;
+    let mut fits = lanes::sizes_fit(z, s.top);
+    let end = begins::lanes_below(fits, z.p);
     let mut calm = true;
     let mut i: usize = 0;
     while i < end {
         let l = s.lanes[i];
         let o = l.op;
-        fits = logic::both(fits, lanes::lane_fits(s.p, s.m, l));
+        fits = logic::both(fits, lanes::lane_fits(z, l));
         calm = logic::both(calm, lanes::idle(o));
         i = i + 1;
     }
@@ -80,8 +83,9 @@ fn marks_at(s: State, q: u32) -> u32
     }
 }
 
+// The marks in force that the next step of a check reads.
 fn seen_in(s: State, c: Check) -> u32
-    ensures { λ r. ⌜ r ≡ seenIn s c ⌝ }
+    ensures { λ r. ⌜ r ≡ marksAt s (namedIn c) ⌝ }
 {
     match c {
         Check::Link => marks_at(s, 0),
@@ -92,20 +96,20 @@ fn seen_in(s: State, c: Check) -> u32
 }
 
 // One more step of a check that has not ended.
-fn onward(s: State, i: Cell, links: &[u64], directory: &[u32], pool: &[u32], found: Found) -> Found
-    ensures { λ r. ⌜ r ≡ onward s (i .0) (now (links .entry)) (now (directory .entry)) (now (pool .entry)) found ⌝ }
+fn onward(s: State, i: Cell, links: &[u64], directory: &[u32], pool: &[Mark], found: Found) -> Found
+    ensures { λ r. ⌜ r ≡ onward s i (now (links .entry)) (now (directory .entry)) (now (pool .entry)) found ⌝ }
 {
     match found {
         Found::Outside => Found::Outside,
-        Found::On(c) => steps::look::check(s.p, seen_in(s, c), links, directory, pool, i, c),
+        Found::On(c) => steps::look::check(s.terms, seen_in(s, c), links, directory, pool, i, c),
         Found::NotWritten(w) => Found::NotWritten(w),
         Found::Written => Found::Written,
     }
 }
 
 // The check of cell i, run to its end: four steps at the most.
-pub fn looked_at(s: State, i: Cell, links: &[u64], directory: &[u32], pool: &[u32]) -> Found
-    ensures { λ r. ⌜ r ≡ lookedAt s (i .0) (now (links .entry)) (now (directory .entry)) (now (pool .entry)) ⌝ }
+pub fn looked_at(s: State, i: Cell, links: &[u64], directory: &[u32], pool: &[Mark]) -> Found
+    ensures { λ r. ⌜ r ≡ lookedAt s i (now (links .entry)) (now (directory .entry)) (now (pool .entry)) ⌝ }
 {
     let a = onward(s, i, links, directory, pool, Found::On(Check::Link));
     let b = onward(s, i, links, directory, pool, a);
@@ -130,8 +134,8 @@ fn reading_as(s: State, i: Cell, readings: &[u32], found: Found) -> Quarter
     match found {
         Found::Outside => Quarter::Outside,
         Found::On(_) => Quarter::Outside,
-        Found::NotWritten(_) => quarter_of(steps::not_written_read(s.first, s.step, i)),
-        Found::Written => quarter_of(steps::written_read(readings, i)),
+        Found::NotWritten(_) => quarter_of(steps::not_written_read(s.terms, i)),
+        Found::Written => quarter_of(steps::written_read(s.terms, readings, i)),
     }
 }
 
@@ -142,7 +146,7 @@ pub fn reading_at(
     readings: &[u32],
     links: &[u64],
     directory: &[u32],
-    pool: &[u32],
+    pool: &[Mark],
 ) -> Quarter
     ensures { λ r. ⌜ r ≡ readingAt s i (memory (now (readings .entry)) (now (links .entry)) (now (directory .entry)) (now (pool .entry))) ⌝ }
 {

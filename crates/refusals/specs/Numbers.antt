@@ -1,49 +1,73 @@
--- The number that the papers give each refusal: 1 to 16 in document 01's table, 17 in 02's W1, 18 in W4.
+-- The table of refusals, and the number that the papers give each: 1 to 16 in document 01's table, 17 in 02's W1, 18 in W4.
+-- A refusal more is a line of `table` and a line of `row`; all else of the table follows from the two.
 -- Assumes nothing.
 use Prim.Native.Nat.{ℕ}
-use lib.Dec.{eqb}
+use mathlib.Core.Path.{_≡_, refl}
+use mathlib.Core.List.{List, [], _∷_}
+use lib.ListN.{getD}
 use Rattle.refusals.specs.declared.Refusal.{Refusal}
 use Rattle.refusals.specs.declared.Refusal.the-variants as Refusal
-use Rattle.logic.specs.Pick.{pick}
+
+-- The refusals at their numbers, from 0 on; at a number of no row, the one that any other number has.
+abbrev pub table : List Refusal
+table =
+    Refusal.NothingWritten
+    ∷ Refusal.ProcessCount
+    ∷ Refusal.CellCount
+    ∷ Refusal.LentLength
+    ∷ Refusal.NoSuchProcess
+    ∷ Refusal.NoSuchCell
+    ∷ Refusal.UnderWay
+    ∷ Refusal.NothingUnderWay
+    ∷ Refusal.OtherLengths
+    ∷ Refusal.OutOfRange
+    ∷ Refusal.AtWork
+    ∷ Refusal.NotASchedule
+    ∷ Refusal.Version
+    ∷ Refusal.TooManyCells
+    ∷ Refusal.RaggedRecords
+    ∷ Refusal.RecordKind
+    ∷ Refusal.FileTooLong
+    ∷ Refusal.NoRoom
+    ∷ Refusal.NothingWritten
+    ∷ []
+
+-- The refusal of a number.
+abbrev pub refusalOf : ℕ → Refusal
+refusalOf n = getD table n Refusal.NothingWritten
+
+-- A refusal's row: its number, at which the table has it.
+pub record Row (r : Refusal) : Type 0 where
+  pub number : ℕ
+  pub there : refusalOf number ≡ r
+
+abbrev pub stands : {r : Refusal} (n : ℕ) → refusalOf n ≡ r → Row r
+stands n e = record { number = n; there = e }
+
+abbrev pub row : (r : Refusal) → Row r
+row Refusal.ProcessCount = stands 1 refl
+row Refusal.CellCount = stands 2 refl
+row Refusal.LentLength = stands 3 refl
+row Refusal.NoSuchProcess = stands 4 refl
+row Refusal.NoSuchCell = stands 5 refl
+row Refusal.UnderWay = stands 6 refl
+row Refusal.NothingUnderWay = stands 7 refl
+row Refusal.OtherLengths = stands 8 refl
+row Refusal.OutOfRange = stands 9 refl
+row Refusal.AtWork = stands 10 refl
+row Refusal.NotASchedule = stands 11 refl
+row Refusal.Version = stands 12 refl
+row Refusal.TooManyCells = stands 13 refl
+row Refusal.RaggedRecords = stands 14 refl
+row Refusal.RecordKind = stands 15 refl
+row Refusal.FileTooLong = stands 16 refl
+row Refusal.NoRoom = stands 17 refl
+row Refusal.NothingWritten = stands 18 refl
 
 abbrev pub numberOf : Refusal → ℕ
-numberOf Refusal.ProcessCount = 1
-numberOf Refusal.CellCount = 2
-numberOf Refusal.LentLength = 3
-numberOf Refusal.NoSuchProcess = 4
-numberOf Refusal.NoSuchCell = 5
-numberOf Refusal.UnderWay = 6
-numberOf Refusal.NothingUnderWay = 7
-numberOf Refusal.OtherLengths = 8
-numberOf Refusal.OutOfRange = 9
-numberOf Refusal.AtWork = 10
-numberOf Refusal.NotASchedule = 11
-numberOf Refusal.Version = 12
-numberOf Refusal.TooManyCells = 13
-numberOf Refusal.RaggedRecords = 14
-numberOf Refusal.RecordKind = 15
-numberOf Refusal.FileTooLong = 16
-numberOf Refusal.NoRoom = 17
-numberOf Refusal.NothingWritten = 18
+numberOf r = row r .number
 
--- The refusal of a number; of one that is in no table, the last.
-abbrev pub refusalOf : ℕ → Refusal
-refusalOf n =
-    pick (eqb n 1) Refusal.ProcessCount
-    (pick (eqb n 2) Refusal.CellCount
-    (pick (eqb n 3) Refusal.LentLength
-    (pick (eqb n 4) Refusal.NoSuchProcess
-    (pick (eqb n 5) Refusal.NoSuchCell
-    (pick (eqb n 6) Refusal.UnderWay
-    (pick (eqb n 7) Refusal.NothingUnderWay
-    (pick (eqb n 8) Refusal.OtherLengths
-    (pick (eqb n 9) Refusal.OutOfRange
-    (pick (eqb n 10) Refusal.AtWork
-    (pick (eqb n 11) Refusal.NotASchedule
-    (pick (eqb n 12) Refusal.Version
-    (pick (eqb n 13) Refusal.TooManyCells
-    (pick (eqb n 14) Refusal.RaggedRecords
-    (pick (eqb n 15) Refusal.RecordKind
-    (pick (eqb n 16) Refusal.FileTooLong
-    (pick (eqb n 17) Refusal.NoRoom
-    Refusal.NothingWritten))))))))))))))))
+-- The same, told from the number.
+pub record Numbered (r : Refusal) (n : ℕ) : Type 0 where
+  pub is : r ≡ refusalOf n
+  pub own : n ≡ numberOf (refusalOf n)

@@ -1,6 +1,6 @@
 // The refusals of the table, each by its name.
 ghost use mathlib.Core.Path.{_≡_};
-ghost use Rattle.refusals.specs.Numbers.{numberOf, refusalOf};
+ghost use Rattle.refusals.specs.Numbers.{numberOf, refusalOf, Numbered};
 
 pub enum Refusal {
     // Open: p is 0 or over the most.
@@ -41,9 +41,32 @@ pub enum Refusal {
     NothingWritten,
 }
 
-// The table's number.
-pub fn number(r: Refusal) -> u32
-    ensures { λ n. ⌜ n ≡ numberOf r ⌝ }
+// The refusals at their numbers, from 0 on; at a number of no row, the one that any other number has.
+const TABLE: [Refusal; 19] = [
+    Refusal::NothingWritten,
+    Refusal::ProcessCount,
+    Refusal::CellCount,
+    Refusal::LentLength,
+    Refusal::NoSuchProcess,
+    Refusal::NoSuchCell,
+    Refusal::UnderWay,
+    Refusal::NothingUnderWay,
+    Refusal::OtherLengths,
+    Refusal::OutOfRange,
+    Refusal::AtWork,
+    Refusal::NotASchedule,
+    Refusal::Version,
+    Refusal::TooManyCells,
+    Refusal::RaggedRecords,
+    Refusal::RecordKind,
+    Refusal::FileTooLong,
+    Refusal::NoRoom,
+    Refusal::NothingWritten,
+];
+
+// Where the table has a refusal.
+fn row(r: Refusal) -> u32
+    ensures { λ n. ⌜ Numbered r n ⌝ }
 {
     match r {
         Refusal::ProcessCount => 1,
@@ -67,28 +90,21 @@ pub fn number(r: Refusal) -> u32
     }
 }
 
-// The refusal of a number of the table; of any other number, the last.
+// The table's number.
+pub fn number(r: Refusal) -> u32
+    ensures { λ n. ⌜ n ≡ numberOf r ⌝ }
+{
+    row(r)
+}
+
+// The refusal of a number of the table; of any other number, NothingWritten.
 pub fn of_number(n: u32) -> Refusal
     ensures { λ r. ⌜ r ≡ refusalOf n ⌝ }
 {
-    match n {
-        1 => Refusal::ProcessCount,
-        2 => Refusal::CellCount,
-        3 => Refusal::LentLength,
-        4 => Refusal::NoSuchProcess,
-        5 => Refusal::NoSuchCell,
-        6 => Refusal::UnderWay,
-        7 => Refusal::NothingUnderWay,
-        8 => Refusal::OtherLengths,
-        9 => Refusal::OutOfRange,
-        10 => Refusal::AtWork,
-        11 => Refusal::NotASchedule,
-        12 => Refusal::Version,
-        13 => Refusal::TooManyCells,
-        14 => Refusal::RaggedRecords,
-        15 => Refusal::RecordKind,
-        16 => Refusal::FileTooLong,
-        17 => Refusal::NoRoom,
-        _ => Refusal::NothingWritten,
+    let k = n as usize;
+    if k < TABLE.len() {
+        TABLE[k]
+    } else {
+        Refusal::NothingWritten
     }
 }

@@ -7,22 +7,21 @@ use mathlib.Core.Bool.{Bool, true, false}
 use mathlib.Core.Logic.{_⊎_, _≢_}
 use mathlib.Core.List.{List, [], _∷_, List·Memᴰ}
 use Rattle.logic.specs.Pick.{pick}
-use Rattle.refusals.specs.declared.Refusal.{Refusal}
-use Rattle.refusals.specs.declared.Refusal.the-variants as Refusal
-use Rattle.steps.specs.declared.Found.{Found}
-use Rattle.steps.specs.declared.Found.the-variants as Found
+use Rattle.numbers.specs.Numbers.{fillOf}
+use Rattle.numbers.specs.Cells.{cellAt}
 use Rattle.quiet.specs.declared.Quarter.the-variants as Quarter
 use Rattle.quiet.specs.declared.Scan.the-variants as Scan
 use Rattle.quiet.specs.Quiet.{scanOf, lookedAt, readingAt}
 use Rattle.summary.specs.declared.Summary.the-variants as Summary
-use Rattle.summary.specs.Summary.{hourOf, fourFrom, cellAt, summaryOf}
-use Rattle.theory.specs.Interface.{Done, Entry, Is, valueIn, writtenIn}
+use Rattle.summary.specs.Summary.{hourOf, fourFrom, summaryOf}
+use Rattle.theory.specs.Order.{Done, Entry, Is, valueIn, writtenIn}
+use Rattle.demands.specs.Types.{Refusal, Cell, Terms, State, Found}
 use Rattle.demands.specs.Book.{nothing, Run}
 use Rattle.demands.specs.Demand2.{OneOrder}
 
 -- The book shows no process below p at work.
-abbrev pub Resting : ℕ → Run → Type 0
-Resting p r = (q : ℕ) → q < p → r .book .doing q ≡ nothing
+abbrev pub Resting : Terms → Run State → Type 0
+Resting z r = (q : ℕ) → q < z .p → r .book .doing q ≡ nothing
 
 -- A check that has ended tells whether the cell is written.
 abbrev pub Tells : Found → Bool → Type 0
@@ -32,8 +31,12 @@ Tells (Found.NotWritten link) t = t ≡ false
 Tells Found.Written t = t ≡ true
 
 -- Cell i, looked at after the run.
-abbrev pub looked : Run → ℕ → Found
+abbrev pub looked : Run State → Cell → Found
 looked r i = lookedAt (r .world .state) i (r .world .memory .links) (r .world .memory .directory) (r .world .memory .pool)
+
+-- What the array holds at first.
+abbrev pub filled : Terms → ℕ → ℕ
+filled z = fillOf (z .first) (z .step)
 
 -- The array's values, at the end of an order, of those of the cells that a write precedes.
 abbrev pub valuesOf : (ℕ → ℕ) → List Entry → List ℕ → List ℕ
@@ -45,21 +48,22 @@ abbrev pub hourIn : (ℕ → ℕ) → List Entry → ℕ → List ℕ
 hourIn f order h = valuesOf f order (fourFrom (4 * h))
 
 -- A refusal of the summary of hour h: 5 for an hour that is not there, 18 for one of which no value is written.
-abbrev pub FiveOrEighteen : ℕ → ℕ → List ℕ → Refusal → Type 0
-FiveOrEighteen m h values r = ((m / 4 ≤ h) × (r ≡ Refusal.NoSuchCell)) ⊎ ((h < m / 4) × (values ≡ []) × (r ≡ Refusal.NothingWritten))
+abbrev pub FiveOrEighteen : Terms → ℕ → List ℕ → Refusal → Type 0
+FiveOrEighteen z h values r = ((z .m / 4 ≤ h) × (r ≡ Refusal.NoSuchCell)) ⊎ ((h < z .m / 4) × (values ≡ []) × (r ≡ Refusal.NothingWritten))
 
--- What a run at rest shows, of m cells filled at first by f. There is one order, as demand 2 has it, and all in it have finished.
+-- What a run at rest shows of a grid opened with terms z. There is one order, as demand 2 has it, and all in it have finished.
 -- `written`, `reading`: each cell is found written exactly if the array has a write of it in that order, and its reading is the
 -- array's value. `hours`: so the summary is of the array's values of the written cells. The refusals left are `nothing`: 18, if none
 -- of the four is written; and `no-hour`: 5, an hour that is not there.
-pub record Shown (m : ℕ) (f : ℕ → ℕ) (r : Run) : Type 0 where
-  pub one-order : OneOrder f (r .book)
+pub record Shown (z : Terms) (r : Run State) : Type 0 where
+  pub one-order : OneOrder (filled z) (r .book)
   pub finished : (e : Entry) → List·Memᴰ e (one-order .order) → (d : Done) × List·Memᴰ d (r .book .ended) × Is e d
-  pub written : (i : ℕ) → i < m → Tells (looked r i) (writtenIn (one-order .order) i)
-  pub reading : (i : ℕ) → i < m → readingAt (r .world .state) (cellAt i) (r .world .memory) ≡ Quarter.Read (valueIn f (one-order .order) i) (writtenIn (one-order .order) i)
+  pub written : (i : ℕ) → i < z .m → Tells (looked r (cellAt z i)) (writtenIn (one-order .order) i)
+  pub reading : (i : ℕ) → i < z .m
+      → readingAt (r .world .state) (cellAt z i) (r .world .memory) ≡ Quarter.Read (valueIn (filled z) (one-order .order) i) (writtenIn (one-order .order) i)
   pub scan : scanOf (r .world .state) ≡ Scan.AtRest
-  pub hours : (h : ℕ) → h < m / 4 → hourIn f (one-order .order) h ≢ []
-      → summaryOf (r .world .state) h (r .world .memory) ≡ Summary.Of (hourOf (hourIn f (one-order .order) h))
-  pub nothing : (h : ℕ) → h < m / 4 → hourIn f (one-order .order) h ≡ []
+  pub hours : (h : ℕ) → h < z .m / 4 → hourIn (filled z) (one-order .order) h ≢ []
+      → summaryOf (r .world .state) h (r .world .memory) ≡ Summary.Of (hourOf (hourIn (filled z) (one-order .order) h))
+  pub nothing : (h : ℕ) → h < z .m / 4 → hourIn (filled z) (one-order .order) h ≡ []
       → summaryOf (r .world .state) h (r .world .memory) ≡ Summary.Refused Refusal.NothingWritten
-  pub no-hour : (h : ℕ) → m / 4 ≤ h → summaryOf (r .world .state) h (r .world .memory) ≡ Summary.Refused Refusal.NoSuchCell
+  pub no-hour : (h : ℕ) → z .m / 4 ≤ h → summaryOf (r .world .state) h (r .world .memory) ≡ Summary.Refused Refusal.NoSuchCell

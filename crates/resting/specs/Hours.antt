@@ -9,64 +9,62 @@ use native.Mathlib.Omega.{arith}
 use borrow.Author.Tests.{lt-ltb, le-ltb, ne-eqb}
 use lib.Dec.{eqb}
 use lib.ListN.{length}
-use Rattle.numbers.specs.Numbers.{fillOf}
 use Rattle.logic.specs.BelowLaws.{below-all}
 use Rattle.logic.specs.Pick.{pick}
-use Rattle.refusals.specs.declared.Refusal.the-variants as Refusal
-use Rattle.lanes.specs.declared.State.{State}
 use Rattle.lanes.specs.Ranges.{laneOf, idle}
-use Rattle.steps.specs.Memory.{Memory}
+use Rattle.acts.specs.Lent.{lengths-fit}
 use Rattle.quiet.specs.declared.Scan.the-variants as Scan
 use Rattle.quiet.specs.Quiet.{atRest, scanOf}
 use Rattle.summary.specs.declared.Summary.{Summary}
 use Rattle.summary.specs.declared.Summary.the-variants as Summary
 use Rattle.summary.specs.Summary.{hourOf, summaryOf}
+use Rattle.demands.specs.Types.{Refusal, State, Memory}
 use Rattle.demands.specs.Book.{nothing, Book}
 use Rattle.demands.specs.Agrees.{LaneAgrees}
-use Rattle.demands.specs.Good.{Good, lengths-fit, state-fits}
-use Rattle.resting.specs.AtRest.{hourIn}
+use Rattle.bridge.specs.Good.{Good, state-fits}
+use Rattle.resting.specs.AtRest.{filled, hourIn}
 use Rattle.resting.specs.Cells.{nobody, order, reading-shown}
 
-module _ {s : State} {mem : Memory} {b : Book} (H : Good s mem b) (rest : (q : ℕ) → q < s .p → b .doing q ≡ nothing) where
+module _ {s : State} {mem : Memory} {b : Book} (H : Good s mem b) (rest : (q : ℕ) → q < s .terms .p → b .doing q ≡ nothing) where
   idle-at : (q : ℕ) → idle (laneOf s q .op) ≡ true
-  idle-at q = let h : LaneAgrees (laneOf s q) nothing = rw (nobody H rest q) at (H .agrees q) in ap idle (h .0)
+  idle-at q = let h : LaneAgrees (s .terms) (laneOf s q) nothing = rw (nobody H rest q) at (H .agrees q) in ap idle (h .0)
 
   at-rest : atRest s ≡ true
-  at-rest = below-all (s .p) (λ (q : ℕ). idle (laneOf s q .op)) (λ q h. idle-at q)
+  at-rest = below-all (s .terms .p) (λ (q : ℕ). idle (laneOf s q .op)) (λ q h. idle-at q)
 
   pub scan-shown : scanOf s ≡ Scan.AtRest
   scan-shown = rw (state-fits H, at-rest)
 
   abbrev values : ℕ → List ℕ
-  values h = hourIn (fillOf (s .first) (s .step)) (order H rest) h
+  values h = hourIn (filled (s .terms)) (order H rest) h
 
   -- the order of refusals from 18 on
   abbrev from-18 : List ℕ → Summary
   from-18 vs = pick (eqb (length vs) 0) (Summary.Refused Refusal.NothingWritten) (Summary.Of (hourOf vs))
 
-  hour-shown : (h : ℕ) → h < s .m / 4 → summaryOf s h mem ≡ from-18 (values h)
+  hour-shown : (h : ℕ) → h < s .terms .m / 4 → summaryOf s h mem ≡ from-18 (values h)
   unfolding summaryOf
   hour-shown h hh =
       rw (
         scan-shown,
         lengths-fit (H .lengths),
-        lt-ltb h (s .m / 4) hh,
+        lt-ltb h (s .terms .m / 4) hh,
         reading-shown H rest (4 * h) (omega arith),
         reading-shown H rest (4 * h + 1) (omega arith),
         reading-shown H rest (4 * h + 2) (omega arith),
         reading-shown H rest (4 * h + 3) (omega arith),
       )
 
-  pub hours-shown : (h : ℕ) → h < s .m / 4 → values h ≢ [] → summaryOf s h mem ≡ Summary.Of (hourOf (values h))
+  pub hours-shown : (h : ℕ) → h < s .terms .m / 4 → values h ≢ [] → summaryOf s h mem ≡ Summary.Of (hourOf (values h))
   hours-shown h hh some = hour-shown h hh ∙ by (values h) some
     where
       by : (vs : List ℕ) → vs ≢ [] → from-18 vs ≡ Summary.Of (hourOf vs)
       by [] n = absurd (n refl)
       by (v ∷ vs) n = rw (ne-eqb (length (v ∷ vs)) 0 (λ x. let y : ⊥ = omega arith in y))
 
-  pub nothing-shown : (h : ℕ) → h < s .m / 4 → values h ≡ [] → summaryOf s h mem ≡ Summary.Refused Refusal.NothingWritten
+  pub nothing-shown : (h : ℕ) → h < s .terms .m / 4 → values h ≡ [] → summaryOf s h mem ≡ Summary.Refused Refusal.NothingWritten
   nothing-shown h hh none = hour-shown h hh ∙ ap from-18 none
 
-  pub no-hour-shown : (h : ℕ) → s .m / 4 ≤ h → summaryOf s h mem ≡ Summary.Refused Refusal.NoSuchCell
+  pub no-hour-shown : (h : ℕ) → s .terms .m / 4 ≤ h → summaryOf s h mem ≡ Summary.Refused Refusal.NoSuchCell
   unfolding summaryOf
-  no-hour-shown h hh = rw (scan-shown, lengths-fit (H .lengths), le-ltb h (s .m / 4) hh)
+  no-hour-shown h hh = rw (scan-shown, lengths-fit (H .lengths), le-ltb h (s .terms .m / 4) hh)

@@ -1,7 +1,6 @@
 -- the statement
 pub mod AtRest
 -- the proof
-pub mod Looked
 pub mod Cells
 pub mod Hours
 -- the theorems

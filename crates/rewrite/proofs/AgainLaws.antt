@@ -1,6 +1,6 @@
 -- Each case of the rewriting program's output, as a law of its definition.
 -- Assumes nothing.
-use Prim.Native.Nat.{ℕ, _+_, _<_, _≤_}
+use Prim.Native.Nat.{ℕ, _+_, _^_, _<_, _≤_}
 use mathlib.Core.Path.{_≡_, refl, sym, ap, _∙_}
 use mathlib.Core.List.{List}
 use native.Mathlib.Omega.{arith}
@@ -12,16 +12,18 @@ use Rattle.qhs.specs.declared.Header.{Header}
 use Rattle.qhs.specs.declared.Record.{Record}
 use Rattle.qhs.specs.declared.Reading.{Reading}
 use Rattle.qhs.specs.declared.Reading.the-variants as Reading
-use Rattle.qhs.specs.Qhs.{recordAt, readOf}
+use Rattle.qhs.specs.Qhs.{version1, mostRecords, recordIn, recordAt, readOf}
 use Rattle.qhs.specs.Laws.{schedule}
+use Rattle.byte_lists.specs.Digits.{Bytes, number-below}
 use Rattle.qhs.specs.Parts.{part-length}
-use Rattle.text.specs.declared.Put.the-variants as Put
-use Rattle.text.specs.Text.{fileRefusedLine, Placed, placed, putOf}
+use Rattle.byte_lists.specs.declared.Put.the-variants as Put
+use Rattle.text.specs.Text.{fileRefusedLine}
+use Rattle.byte_lists.specs.Bytes.{Placed, placed, putOf}
 use Rattle.qhs_writer.specs.declared.Wrote.{Wrote}
 use Rattle.qhs_writer.specs.declared.Wrote.the-variants as Wrote
-use Rattle.qhs_writer.specs.Writer.{Fields, fields, page, writeOf}
+use Rattle.qhs_writer.specs.Writer.{Fields, fields, Page, page, writeOf}
 use Rattle.qhs_writer.specs.Again.{listed, fieldsOf}
-use Rattle.rewrite.specs.Again.{shown, written, againAs, againOf}
+use Rattle.rewrite.specs.Again.{shownAs, shown, written, againAs, againOf}
 use Rattle.rewrite.specs.Inner.{Room}
 
 -- ---- the fields, record by record
@@ -80,7 +82,17 @@ module _ (bytes : List ℕ) (n : ℕ) (kinds processes cells values : List ℕ) 
 
   pub gathered-all : n ≤ k → fields kinds processes cells values ≡ fieldsOf bytes n
   gathered-all h =
-      rw (listing-all _ n kinds k h (g .low) (g .kinds-are), listing-all _ n processes k h (g .low) (g .processes-are), listing-all _ n cells k h (g .low) (g .cells-are), listing-all _ n values k h (g .low) (g .values-are))
+      rw (
+        listing-all _ n kinds k h (g .low) (g .kinds-are),
+        listing-all _ n processes k h (g .low) (g .processes-are),
+        listing-all _ n cells k h (g .low) (g .cells-are),
+        listing-all _ n values k h (g .low) (g .values-are),
+      )
+
+-- a record's cell has 16 bits
+pub cell-fits : (bytes : List ℕ) (k : ℕ) (r : Record) → Bytes bytes → r ≡ recordAt bytes k → r .cell < 2 ^ 16
+unfolding recordIn
+cell-fits bytes k r b e = rw e (number-below bytes _ (version1 .cell) b)
 
 -- ---- room for the fields
 
@@ -90,23 +102,24 @@ room-for n most h =
     let e = sym (part-length n most 0 h) in
     record { for-kinds = e; for-processes = e; for-cells = e; for-values = e }
 
--- ---- what is shown
+-- ---- what is printed
 
-module _ (bytes : List ℕ) (h : Header) (n : ℕ) (f : Fields) (out out′ : List ℕ) (w : Wrote) (e : f ≡ fieldsOf bytes n) (g : page w out′ ≡ writeOf h f out) where
-  shown-is : shown (page w out′) ≡ written bytes h n out
-  unfolding written
-  shown-is = ap shown g ∙ ap (λ (x : Fields). shown (writeOf h x out)) e
+module _ (q : Page) (w : Wrote) (out : List ℕ) (e : page w out ≡ q) where
+  pub printed-file : (end : ℕ) → w ≡ Wrote.Bytes end → placed (Put.End end) out ≡ shown q
+  printed-file end f = ap (shownAs out) (sym f) ∙ ap shown e
 
-  pub shows-file : (end : ℕ) → w ≡ Wrote.Bytes end → placed (Put.End end) out′ ≡ written bytes h n out
-  shows-file end k = ap (λ (x : Wrote). shown (page x out′)) (sym k) ∙ shown-is
+  pub printed-refused : (r : Refusal) (p : Placed) → w ≡ Wrote.Refused r → p ≡ putOf out 0 (fileRefusedLine r) → p ≡ shown q
+  printed-refused r p f g = g ∙ ap (shownAs out) (sym f) ∙ ap shown e
 
-  pub shows-refused : (r : Refusal) (p : Placed) → w ≡ Wrote.Refused r → p ≡ putOf out′ 0 (fileRefusedLine r) → p ≡ written bytes h n out
-  shows-refused r p k l = l ∙ ap (λ (x : Wrote). shown (page x out′)) (sym k) ∙ shown-is
+pub shows : (bytes : List ℕ) (h : Header) (n : ℕ) (f : Fields) (out : List ℕ) (p : Placed) → f ≡ fieldsOf bytes n → p ≡ shown (writeOf h f out)
+    → p ≡ written bytes h n out
+unfolding written
+shows bytes h n f out p e g = g ∙ ap (λ (x : Fields). shown (writeOf h x out)) e
 
 -- ---- the file
 
-pub few-records : (bytes : List ℕ) (is : Reading) (h : Header) (n : ℕ) → is ≡ readOf bytes → is ≡ Reading.Schedule h n → n ≤ 8189
-few-records bytes is h n read e = let s = schedule bytes is h n read e in omega (arith, s .bytes, s .bytes-high)
+pub few-records : (bytes : List ℕ) (is : Reading) (h : Header) (n : ℕ) → is ≡ readOf bytes → is ≡ Reading.Schedule h n → n ≤ mostRecords
+few-records bytes is h n read e = schedule bytes is h n read e .n-high
 
 module _ (bytes out : List ℕ) (is : Reading) (read : is ≡ readOf bytes) (r : Placed) where
   pub again-refused : (f : Refusal) → is ≡ Reading.Refused f → r ≡ putOf out 0 (fileRefusedLine f) → r ≡ againOf bytes out

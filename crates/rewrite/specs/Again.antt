@@ -6,8 +6,9 @@ use Rattle.qhs.specs.declared.Header.{Header}
 use Rattle.qhs.specs.declared.Reading.{Reading}
 use Rattle.qhs.specs.declared.Reading.the-variants as Reading
 use Rattle.qhs.specs.Qhs.{readOf}
-use Rattle.text.specs.declared.Put.the-variants as Put
-use Rattle.text.specs.Text.{fileRefusedLine, Placed, placed, putOf}
+use Rattle.byte_lists.specs.declared.Put.the-variants as Put
+use Rattle.text.specs.Text.{fileRefusedLine}
+use Rattle.byte_lists.specs.Bytes.{Placed, placed, putOf}
 use Rattle.qhs_writer.specs.declared.Wrote.{Wrote}
 use Rattle.qhs_writer.specs.declared.Wrote.the-variants as Wrote
 use Rattle.qhs_writer.specs.Writer.{Page, writeOf}

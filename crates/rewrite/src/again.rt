@@ -1,16 +1,17 @@
 // The rewriting program without its input and output: from a file's bytes to the bytes that it prints.
 ghost use mathlib.Core.Path.{_≡_};
 ghost use Prim.Native.Nat.{_≤_};
-ghost use Rattle.text.specs.Text.{placed};
-ghost use Rattle.qhs_writer.specs.Writer.{fields};
+ghost use Rattle.qhs.specs.Qhs.{mostRecords};
+ghost use Rattle.byte_lists.specs.Bytes.{placed};
+ghost use Rattle.qhs_writer.specs.Writer.{fields, writeOf};
 ghost use Rattle.qhs_writer.specs.Again.{fieldsOf};
-ghost use Rattle.rewrite.specs.Again.{written, againOf};
+ghost use Rattle.rewrite.specs.Again.{shown, written, againOf};
 ghost use Rattle.rewrite.specs.Inner.{Room};
+use byte_lists::Put;
+use qhs::FILE_RECORDS;
 use qhs::Header;
 use qhs::Reading;
-use qhs_writer::FILE_RECORDS;
 use qhs_writer::Wrote;
-use text::Put;
 
 // Takes the fields of the first n records, each into its own slice.
 fn gather(
@@ -29,9 +30,27 @@ fn gather(
         let r = qhs::record_at(bytes, k);
         kinds[k] = r.kind;
         processes[k] = r.process;
-        cells[k] = r.cell;
+        cells[k] = r.cell as u16;
         values[k] = r.value;
         k = k + 1;
+    }
+}
+
+// Writes the file of a header and records; what is printed of it.
+fn printed(
+    h: Header,
+    kinds: &[u8],
+    processes: &[u8],
+    cells: &[u16],
+    values: &[u32],
+    out: &mut [u8],
+) -> Put
+    ensures { λ r. ⌜ placed r (now (out .exit))
+        ≡ shown (writeOf h (fields (now (kinds .entry)) (now (processes .entry)) (now (cells .entry)) (now (values .entry))) (now (out .entry))) ⌝ }
+{
+    match qhs_writer::write(h, kinds, processes, cells, values, out) {
+        Wrote::Bytes(end) => Put::End(end),
+        Wrote::Refused(r) => text::put_file_refused(out, 0, r),
     }
 }
 
@@ -50,16 +69,12 @@ fn run(
     ensures { λ r. ⌜ placed r (now (out .exit)) ≡ written (now (bytes .entry)) h n (now (out .entry)) ⌝ }
 {
     gather(bytes, n, kinds, processes, cells, values);
-    let wrote = qhs_writer::write(h, kinds, processes, cells, values, out);
-    match wrote {
-        Wrote::Bytes(end) => Put::End(end),
-        Wrote::Refused(r) => text::put_file_refused(out, 0, r),
-    }
+    printed(h, kinds, processes, cells, values, out)
 }
 
 // Lends room for the fields of the records of the longest file.
 fn schedule(bytes: &[u8], h: Header, n: usize, out: &mut [u8]) -> Put
-    requires { ⌜ n ≤ 8189 ⌝ }
+    requires { ⌜ n ≤ mostRecords ⌝ }
     ensures { λ r. ⌜ placed r (now (out .exit)) ≡ written (now (bytes .entry)) h n (now (out .entry)) ⌝ }
 {
     let mut kinds = [0u8; FILE_RECORDS];

@@ -1,15 +1,12 @@
 // The rewriting program: one schedule file from standard input, the same file to standard output with the ignored fields put to zero.
 mod again;
 
+use byte_lists::Put;
 use libc::STDIN_FILENO;
 use libc::STDOUT_FILENO;
-use text::Put;
-
-// One byte more than the longest file, so that a longer one is seen to be.
-const INPUT: usize = 65537;
 
 fn main() {
-    let mut file = [0u8; INPUT];
+    let mut file = [0u8; qhs::INPUT];
     let mut out = [0u8; qhs::FILE_BYTES];
     let n = io::read_full(STDIN_FILENO, &mut file);
     let put = again::again(&file[..n], &mut out);

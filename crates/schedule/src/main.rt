@@ -1,13 +1,10 @@
 // The schedule program: one file from standard input, its output to standard output.
+use byte_lists::Put;
 use libc::STDIN_FILENO;
 use libc::STDOUT_FILENO;
-use text::Put;
-
-// One byte more than the longest file, so that a longer one is seen to be.
-const INPUT: usize = 65537;
 
 fn main() {
-    let mut file = [0u8; INPUT];
+    let mut file = [0u8; qhs::INPUT];
     let mut out = [0u8; play::OUTPUT];
     let n = io::read_full(STDIN_FILENO, &mut file);
     let put = play::play(&file[..n], &mut out);

@@ -1,62 +1,69 @@
--- A grid played from its opening, by the definitions that the promises of open, begin and step cite.
+-- A grid played from its opening by a list of calls, and what is looked at in the end.
 -- Assumes nothing.
-use mathlib.Core.List.{List, [], _∷_}
+use mathlib.Core.List.{List, [], _∷_, _++_}
+use mathlib.Core.Path.{_≡_, refl}
 use mathlib.Core.Bool.{Bool, true, false, _&&_}
-use Prim.Native.Nat.{ℕ, zero, suc, _-_}
+use Prim.Native.Nat.{ℕ, _-_}
 use lib.Dec.{eqb}
 use lib.ListN.{getD, replicate}
-use Rattle.numbers.specs.Numbers.{packOf, directoryWords, poolWords}
+use Rattle.numbers.specs.Numbers.{linkOf, directoryWords, poolWords}
+use Rattle.numbers.specs.declared.Terms.{Terms}
 use Rattle.refusals.specs.Numbers.{numberOf}
 use Rattle.lanes.specs.declared.State.{State}
 use Rattle.lanes.specs.Ranges.{laneOf}
 use Rattle.steps.specs.Memory.{Memory, memory}
+use Rattle.acts.specs.declared.Ask.{Ask}
 use Rattle.acts.specs.declared.Ask.the-variants as Ask
 use Rattle.acts.specs.declared.Answer.{Answer}
 use Rattle.acts.specs.declared.Answer.the-variants as Answer
 use Rattle.acts.specs.declared.Opening.{Opening}
 use Rattle.acts.specs.declared.Opening.the-variants as Opening
-use Rattle.acts.specs.Calls.{openOf, beginOf, Outcome, stepOf}
+use Rattle.acts.specs.Worlds.{grid, Call, begin, step, World, answerTo, worldAfter, after, openedWorld}
 
--- A process begins a write, or takes a number of steps.
-pub data Move : Type 0 where
-  write : (process cell value : ℕ) → Move
-  steps : (process count : ℕ) → Move
+-- A grid of p processes and m cells whose filling rule gives 0.
+abbrev pub terms : ℕ → ℕ → Terms
+terms p m = record { p = p; m = m; first = 0; step = 0 }
 
--- Where the play stands: the state, the memories and the last answer.
-pub record Game : Type 0 where
-  pub state : State
-  pub memory : Memory
-  pub answer : Answer
+-- A play is a list of calls: a process begins a write, or takes a number of steps.
+abbrev pub Play : ℕ → ℕ → Type 0
+Play p m = List (Call Ask (terms p m))
 
-abbrev pub onward : Game → Outcome → Game
-onward g r = record { state = r .stepped .state; memory = r .memory; answer = r .stepped .answer }
+abbrev pub write : {z : Terms} → (process cell value : ℕ) → List (Call Ask z)
+write q i v = begin q (Ask.Write (record { 0 = i }) v) ∷ []
 
-unfoldable pub walk : Game → ℕ → ℕ → Game
-walk g q zero = g
-walk g q (suc n) = walk (onward g (stepOf (g .state) q (g .memory))) q n
+abbrev pub steps : {z : Terms} → (process count : ℕ) → List (Call Ask z)
+steps q n = replicate n (step q)
 
-abbrev pub moved : Game → Move → Game
-moved g (write q i v) =
-    record {
-      state = beginOf (g .state) q (Ask.Write (record { 0 = i }) v) .state;
-      memory = g .memory;
-      answer = beginOf (g .state) q (Ask.Write (record { 0 = i }) v) .answer;
-    }
-moved g (steps q n) = walk g q n
+-- Memory of the right lengths, each word 0; and with a pool one word short.
+abbrev pub zerosWith : ℕ → ℕ → ℕ → Memory
+zerosWith p m words = memory (replicate m 0) (replicate m 0) (replicate (directoryWords p) 0) (replicate words 0)
 
-unfoldable pub after : Game → List Move → Game
-after g [] = g
-after g (x ∷ xs) = after (moved g x) xs
-
--- Memory of the right lengths, each word 0.
 abbrev pub zeros : ℕ → ℕ → Memory
-zeros p m = memory (replicate m 0) (replicate m 0) (replicate (directoryWords p) 0) (replicate (poolWords p m) 0)
+zeros p m = zerosWith p m (poolWords p m)
 
-abbrev pub opened : ℕ → ℕ → State
-opened p m = openOf p m 0 0 (zeros p m) .state
+abbrev pub shortened : ℕ → ℕ → Memory
+shortened p m = zerosWith p m (poolWords p m - 1)
 
-unfoldable pub play : ℕ → ℕ → List Move → Game
-play p m moves = after (record { state = opened p m; memory = zeros p m; answer = Answer.Begun }) moves
+abbrev pub opened : ℕ → ℕ → World State
+opened p m = openedWorld grid (terms p m) (zeros p m)
+
+-- The world that a play leaves,
+unfoldable pub played : (p m : ℕ) → Play p m → World State
+played p m calls = after grid (opened p m) calls
+
+-- and what its last call answers.
+unfoldable pub lastFrom : {z : Terms} → World State → List (Call Ask z) → Answer → Answer
+lastFrom w [] a = a
+lastFrom w (c ∷ cs) a = lastFrom (worldAfter grid w c) cs (answerTo grid w c)
+
+pub last-call : {z : Terms} (w : World State) (cs : List (Call Ask z)) (c : Call Ask z) (a : Answer)
+    → lastFrom w (cs ++ (c ∷ [])) a ≡ answerTo grid (after grid w cs) c
+unfolding lastFrom after
+last-call w [] c a = refl
+last-call w (x ∷ cs) c a = last-call (worldAfter grid w x) cs c (answerTo grid w x)
+
+abbrev pub last : (p m : ℕ) → Play p m → Answer
+last p m calls = lastFrom (opened p m) calls Answer.Begun
 
 -- What is looked at in the end: the last answer, a cell's link, a lane's marks in force, the pool's words handed out.
 pub data Seen : Type 0 where
@@ -73,15 +80,15 @@ hasWritten (Answer.Written k) n = eqb k n
 hasWritten (Answer.Asked b k) n = false
 hasWritten (Answer.Refused r) n = false
 
-abbrev pub isSeen : Game → Seen → Bool
-isSeen g (wrote n) = hasWritten (g .answer) n
-isSeen g (leaves i q n) = eqb (getD (g .memory .links) i 0) (packOf q n)
-isSeen g (inForce q n) = eqb (laneOf (g .state) q .marks) n
-isSeen g (handedOut n) = eqb (g .state .top) n
+abbrev pub isSeen : World State → Answer → Seen → Bool
+isSeen w a (wrote n) = hasWritten a n
+isSeen w a (leaves i q n) = eqb (getD (w .memory .links) i 0) (linkOf q n)
+isSeen w a (inForce q n) = eqb (laneOf (w .state) q .marks) n
+isSeen w a (handedOut n) = eqb (w .state .top) n
 
-unfoldable pub sees : Game → List Seen → Bool
-sees g [] = true
-sees g (x ∷ xs) = isSeen g x && sees g xs
+unfoldable pub sees : World State → Answer → List Seen → Bool
+sees w a [] = true
+sees w a (x ∷ xs) = isSeen w a x && sees w a xs
 
 -- The number of the refusal that a call gets; 0 for none.
 abbrev pub refusalOf : Answer → ℕ
@@ -97,11 +104,4 @@ openingRefusal Opening.Open = 0
 openingRefusal (Opening.Refused r) = numberOf r
 
 abbrev pub opening : ℕ → ℕ → ℕ
-opening p m = openingRefusal (openOf p m 0 0 (memory [] [] [] []) .opening)
-
-abbrev pub brought : ℕ → ℕ → ℕ → ℕ
-brought p m q =
-    refusalOf
-    (stepOf (opened p m) q
-    (memory (replicate m 0) (replicate m 0) (replicate (directoryWords p) 0) (replicate (poolWords p m - 1) 0))
-    .stepped .answer)
+opening p m = openingRefusal (grid .opens (terms p m) (memory [] [] [] []) .opening)

@@ -11,7 +11,10 @@ use lib.Dec.{ltb}
 use mathlib.Core.Bool.{Bool, true, false}
 use Rattle.numbers.specs.Numbers.{processOf, placeOf, segmentOf, offsetOf, sizeOf, directoryWord}
 use Rattle.numbers.specs.Laws.{offset-below, size-least, size-word}
+use Rattle.numbers.specs.Cells.{markOf, indexOf}
+use Rattle.numbers.specs.declared.Cell.{Cell}
 use Rattle.numbers.specs.declared.Place.{Place}
+use Rattle.numbers.specs.declared.Terms.{Terms}
 use Rattle.numbers.specs.declared.Process.{Process}
 use Rattle.lanes.specs.declared.Check.{Check}
 use Rattle.lanes.specs.declared.Check.the-variants as Check
@@ -19,8 +22,9 @@ use Rattle.steps.specs.declared.Got.{Got}
 use Rattle.steps.specs.declared.Got.the-variants as Got
 use Rattle.steps.specs.declared.Found.{Found}
 use Rattle.steps.specs.declared.Found.the-variants as Found
-use Rattle.steps.specs.Inner.{wordIn, Part}
-use Rattle.steps.specs.Steps.{startOf, poolWord, checkLink, checkMarks, checkMark, check}
+use Rattle.steps.specs.Inner.{handed, wordIn, Part}
+use Rattle.steps.specs.declared.Next.the-variants as Next
+use Rattle.steps.specs.Steps.{writtenRead, startOf, poolWord, checkLink, checkMarks, checkMark, check}
 
 pub word-outside : (a : List ℕ) (i : ℕ) → length a ≤ i → 0 ≡ getD a i 0
 word-outside a i h = sym (List·getD-eq-default a 0 h)
@@ -106,25 +110,34 @@ module _ (marks w n : ℕ) (e : n ≡ placeOf w) where
   pub marks-off : marks ≤ n → Found.NotWritten w ≡ checkMarks marks w
   marks-off h = let k : marks ≤ placeOf w = rw e at h in simp (le-ltb _ _ k)
 
-module _ (i w x : ℕ) (g : Got) (e : g ≡ Got.Word x) where
-  pub mark-written : x ≡ i → Found.Written ≡ checkMark i w g
+module _ (own w x : ℕ) (g : Got) (e : g ≡ Got.Word x) where
+  pub mark-written : x ≡ own → Found.Written ≡ checkMark own w g
   mark-written h = rw e (simp (eq-eqb _ _ h))
 
-  pub mark-not : (x ≡ i → ⊥) → Found.NotWritten w ≡ checkMark i w g
+  pub mark-not : (x ≡ own → ⊥) → Found.NotWritten w ≡ checkMark own w g
   mark-not h = rw e (simp (ne-eqb _ _ h))
 
-module _ (p seen : ℕ) (links directory pool : List ℕ) (i : ℕ) (c : Check) (r : Found) where
-  pub check-a : (w : ℕ) → c ≡ Check.Link → w ≡ getD links i 0 → r ≡ checkLink p w → r ≡ check p seen links directory pool i c
-  check-a w e f g = rw (e, ← f) g
+module _ (z : Terms) (seen : ℕ) (links directory pool : List ℕ) (i : Cell) (c : Check) where
+  abbrev checked : Found
+  checked = check z (handed seen) links directory pool i c
 
-  pub check-b : (w : ℕ) → c ≡ Check.Marks w → r ≡ checkMarks seen w → r ≡ check p seen links directory pool i c
-  check-b w e g = rw e g
+  module _ (r : Found) where
+    pub check-a : (at w : ℕ) → c ≡ Check.Link → at ≡ indexOf z i → w ≡ getD links at 0 → r ≡ checkLink (z .p) w → r ≡ checked
+    check-a at w e k f g = rw (e, ← k, ← f) g
 
-  pub check-d : (start w : ℕ) (n : Place) (got : Got) → c ≡ Check.Mark start w → n .0 ≡ placeOf w → got ≡ poolWord pool start (n .0)
-      → r ≡ checkMark i w got → r ≡ check p seen links directory pool i c
-  check-d start w n got e f g h = rw (e, ← f, ← g) h
+    pub check-b : (w : ℕ) → c ≡ Check.Marks w → r ≡ checkMarks seen w → r ≡ checked
+    unfolding handed
+    check-b w e g = rw e g
 
-pub check-c : (p seen : ℕ) (links directory pool : List ℕ) (i : ℕ) (c : Check) (w start : ℕ) (q : Process) (n : Place) → c ≡ Check.Directory w
-    → q .0 ≡ processOf w → n .0 ≡ placeOf w → start ≡ startOf directory (q .0) (n .0)
-    → Found.On (Check.Mark start w) ≡ check p seen links directory pool i c
-check-c p seen links directory pool i c w start q n e f g h = rw (e, ← f, ← g, ← h)
+    pub check-d : (start w own : ℕ) (n : Place) (got : Got) → c ≡ Check.Mark start w → n .0 ≡ placeOf w → got ≡ poolWord pool start (n .0)
+        → own ≡ markOf i → r ≡ checkMark own w got → r ≡ checked
+    check-d start w own n got e f g k h = rw (e, ← f, ← g, ← k) h
+
+  pub check-c : (w start : ℕ) (q : Process) (n : Place) → c ≡ Check.Directory w → q .0 ≡ processOf w → n .0 ≡ placeOf w
+      → start ≡ startOf directory (q .0) (n .0) → Found.On (Check.Mark start w) ≡ checked
+  check-c w start q n e f g h = rw (e, ← f, ← g, ← h)
+
+-- a read's answer
+pub read-is : (z : Terms) (readings : List ℕ) (i : Cell) (at v : ℕ) → at ≡ indexOf z i → v ≡ getD readings at 0
+    → Next.Read v true ≡ writtenRead z readings i
+read-is z readings i at v e f = rw (f, e)

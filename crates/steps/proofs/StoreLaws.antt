@@ -10,7 +10,6 @@ use lib.ListN.{length, set, take, drop, length-drop, take-append-drop}
 use lib.Seq.{set-append-left, set-out, length-take-le, take-set-le, drop-set-add}
 use borrow.Author.Tests.{ltb-true, ltb-false}
 use Rattle.numbers.specs.Numbers.{offsetOf}
-use Rattle.numbers.specs.declared.Cell.{Cell}
 use Rattle.numbers.specs.declared.Place.{Place}
 use Rattle.steps.specs.declared.Change.{Change}
 use Rattle.steps.specs.declared.Change.the-variants as Change
@@ -70,11 +69,11 @@ module _ (ch : Change) (readings links directory pool : List ℕ) where
       → mem ≡ memoryAfter ch (memory readings links directory pool)
   stored-arm c mem e h = rw e h
 
-  pub stored-reading : (i : Cell) (v : ℕ) (ys : List ℕ) → ch ≡ Change.Reading i v → ys ≡ set readings (i .0) v
+  pub stored-reading : (i v : ℕ) (ys : List ℕ) → ch ≡ Change.Reading i v → ys ≡ set readings i v
       → memory ys links directory pool ≡ memoryAfter ch (memory readings links directory pool)
   stored-reading i v ys e f = rw (e, f)
 
-  pub stored-link : (i : Cell) (w : ℕ) (ys : List ℕ) → ch ≡ Change.Link i w → ys ≡ set links (i .0) w
+  pub stored-link : (i w : ℕ) (ys : List ℕ) → ch ≡ Change.Link i w → ys ≡ set links i w
       → memory readings ys directory pool ≡ memoryAfter ch (memory readings links directory pool)
   stored-link i w ys e f = rw (e, f)
 

@@ -29,9 +29,9 @@ withDrawn l n = record { marks = l .marks; drawn = n; steps = l .steps; op = l .
 abbrev pub apply : Change → Reach → Reach
 apply Change.Nothing r = r
 apply (Change.Reading i v) r =
-    reach (r .lane) (r .top) (memory (set (r .memory .readings) (i .0) v) (r .memory .links) (r .memory .directory) (r .memory .pool))
+    reach (r .lane) (r .top) (memory (set (r .memory .readings) i v) (r .memory .links) (r .memory .directory) (r .memory .pool))
 apply (Change.Link i w) r =
-    reach (r .lane) (r .top) (memory (r .memory .readings) (set (r .memory .links) (i .0) w) (r .memory .directory) (r .memory .pool))
+    reach (r .lane) (r .top) (memory (r .memory .readings) (set (r .memory .links) i w) (r .memory .directory) (r .memory .pool))
 apply (Change.Directory k start) r =
     reach (r .lane) (r .top) (memory (r .memory .readings) (r .memory .links) (set (r .memory .directory) k start) (r .memory .pool))
 apply (Change.Mark start n mark) r =

@@ -1,4 +1,4 @@
--- What functions inside the crate promise of a part of the pool; no statement cites it.
+-- What functions of this crate and above it promise of a part of the pool and of a step; no statement cites it.
 -- Assumes nothing.
 use Prim.Native.Nat.{ℕ, _+_, _<_, _≤_}
 use mathlib.Core.List.{List}
@@ -8,6 +8,10 @@ use Rattle.numbers.specs.Numbers.{segmentOf, offsetOf, sizeOf}
 use Rattle.logic.specs.Pick.{pick}
 use Rattle.steps.specs.declared.Got.{Got}
 use Rattle.steps.specs.declared.Got.the-variants.{Outside, Word}
+
+-- The marks in force that (b) reads, handed in by the caller: whichever process the link names.
+unfoldable pub handed : ℕ → ℕ → ℕ
+handed seen q = seen
 
 abbrev pub wordIn : List ℕ → ℕ → Got
 wordIn part at = pick (ltb at (length part)) (Word (getD part at 0)) Outside

@@ -8,21 +8,14 @@ pub mod store;
 use lanes::Check;
 use lanes::Op;
 use numbers::Cell;
+use numbers::Mark;
 use numbers::Place;
-
-// A state's numbers without its lanes.
-pub struct Sizes {
-    pub p: u32,
-    pub m: u32,
-    pub first: u32,
-    pub step: u32,
-    pub top: u32,
-}
+use numbers::Terms;
 
 // A word of the pool, or that it lies outside.
 pub enum Got {
     Outside,
-    Word(u32),
+    Word(Mark),
 }
 
 // What a step of a check shows.
@@ -37,11 +30,12 @@ pub enum Found {
 // The one shared word that a step changes.
 pub enum Change {
     Nothing,
-    Reading(Cell, u32),
-    Link(Cell, u64),
+    // the reading, the link, the directory word at an index
+    Reading(usize, u32),
+    Link(usize, u64),
     Directory(usize, u32),
     // the mark at a place of the segment that starts there
-    Mark(u32, Place, u32),
+    Mark(u32, Place, Mark),
     // the marks in force
     Marks(u32),
     // the pool's top, with the count of drawn segments that goes with it
@@ -65,14 +59,14 @@ pub enum Turn {
 }
 
 // The two answers of a read: each has its value and its flag from one place.
-pub fn not_written_read(first: u32, step: u32, i: Cell) -> Next
-    ensures { λ r. ⌜ r ≡ notWrittenRead first step i ⌝ }
+pub fn not_written_read(z: Terms, i: Cell) -> Next
+    ensures { λ r. ⌜ r ≡ notWrittenRead z i ⌝ }
 {
-    Next::Read(numbers::fill(first, step, i), false)
+    Next::Read(numbers::fill_at(z, i), false)
 }
 
-pub fn written_read(readings: &[u32], i: Cell) -> Next
-    ensures { λ r. ⌜ r ≡ writtenRead (now (readings .entry)) i ⌝ }
+pub fn written_read(z: Terms, readings: &[u32], i: Cell) -> Next
+    ensures { λ r. ⌜ r ≡ writtenRead z (now (readings .entry)) i ⌝ }
 {
-    Next::Read(look::word(readings, i.0 as usize), true)
+    Next::Read(look::word(readings, numbers::index_of(z, i)), true)
 }

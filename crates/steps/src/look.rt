@@ -3,26 +3,27 @@ ghost use mathlib.Core.Path.{_≡_};
 ghost use Prim.Native.Nat.{_<_};
 ghost use lib.ListN.{getD};
 ghost use Rattle.steps.specs.Steps.{checkLink, checkMarks, checkMark, check, startOf, poolWord};
-ghost use Rattle.steps.specs.Inner.{wordIn, Part};
+ghost use Rattle.steps.specs.Inner.{handed, wordIn, Part};
 use super::Found;
 use super::Got;
 use lanes::Check;
 use numbers::Cell;
+use numbers::Mark;
 use numbers::Place;
 use numbers::Process;
+use numbers::Terms;
 
-// The word at i; 0 outside the memory.
+// The word at i, and the wide one; 0 outside the memory.
 pub fn word(a: &[u32], i: usize) -> u32
     ensures { λ r. ⌜ r ≡ getD (now (a .entry)) i 0 ⌝ }
 {
     if i < a.len() { a[i] } else { 0 }
 }
 
-pub fn link(links: &[u64], i: Cell) -> u64
-    ensures { λ r. ⌜ r ≡ getD (now (links .entry)) (i .0) 0 ⌝ }
+pub fn wide(a: &[u64], i: usize) -> u64
+    ensures { λ r. ⌜ r ≡ getD (now (a .entry)) i 0 ⌝ }
 {
-    let at = i.0 as usize;
-    if at < links.len() { links[at] } else { 0 }
+    if i < a.len() { a[i] } else { 0 }
 }
 
 // Where the segment of place n of process q starts.
@@ -35,7 +36,7 @@ pub fn start_of(directory: &[u32], q: Process, n: Place) -> u32
     )
 }
 
-fn word_in(part: &[u32], at: usize) -> Got
+fn word_in(part: &[Mark], at: usize) -> Got
     ensures { λ r. ⌜ r ≡ wordIn (now (part .entry)) at ⌝ }
 {
     if at < part.len() {
@@ -60,7 +61,7 @@ pub fn part_end(len: usize, from: usize, n: Place) -> usize
 }
 
 // The mark at place n of the segment that starts there: the segment's part of the pool is handed on.
-pub fn pool_word(pool: &[u32], start: u32, n: Place) -> Got
+pub fn pool_word(pool: &[Mark], start: u32, n: Place) -> Got
     ensures { λ r. ⌜ r ≡ poolWord (now (pool .entry)) start (n .0) ⌝ }
 {
     let from = start as usize;
@@ -91,13 +92,13 @@ fn check_marks(marks: u32, w: u64) -> Found
     }
 }
 
-fn check_mark(i: Cell, w: u64, got: Got) -> Found
-    ensures { λ r. ⌜ r ≡ checkMark (i .0) w got ⌝ }
+fn check_mark(own: Mark, w: u64, got: Got) -> Found
+    ensures { λ r. ⌜ r ≡ checkMark own w got ⌝ }
 {
     match got {
         Got::Outside => Found::Outside,
         Got::Word(mark) => {
-            if mark == i.0 {
+            if mark == own {
                 Found::Written
             } else {
                 Found::NotWritten(w)
@@ -106,20 +107,20 @@ fn check_mark(i: Cell, w: u64, got: Got) -> Found
     }
 }
 
-// One step of the check of cell i.
+// One step of the check of cell i. `seen` is the marks in force that (b) reads.
 pub fn check(
-    p: u32,
+    z: Terms,
     seen: u32,
     links: &[u64],
     directory: &[u32],
-    pool: &[u32],
+    pool: &[Mark],
     i: Cell,
     c: Check,
 ) -> Found
-    ensures { λ r. ⌜ r ≡ check p seen (now (links .entry)) (now (directory .entry)) (now (pool .entry)) (i .0) c ⌝ }
+    ensures { λ r. ⌜ r ≡ check z (handed seen) (now (links .entry)) (now (directory .entry)) (now (pool .entry)) i c ⌝ }
 {
     match c {
-        Check::Link => check_link(p, link(links, i)),
+        Check::Link => check_link(z.p, wide(links, numbers::index_of(z, i))),
         Check::Marks(w) => check_marks(seen, w),
         Check::Directory(w) => {
             let start = start_of(directory, numbers::process_of(w), numbers::place_of(w));
@@ -127,7 +128,7 @@ pub fn check(
         }
         Check::Mark(start, w) => {
             let got = pool_word(pool, start, numbers::place_of(w));
-            check_mark(i, w, got)
+            check_mark(numbers::mark_of(i), w, got)
         }
     }
 }

@@ -7,9 +7,10 @@ ghost use Rattle.steps.specs.Memory.{memory};
 ghost use Rattle.steps.specs.Changes.{memoryAfter};
 use super::Change;
 use super::look;
+use numbers::Mark;
 use numbers::Place;
 
-fn put(a: &mut [u32], i: usize, v: u32)
+pub fn put(a: &mut [u32], i: usize, v: u32)
     ensures { λ _. ⌜ now (a .exit) ≡ set (now (a .entry)) i v ⌝ }
 {
     if i < a.len() {
@@ -17,16 +18,16 @@ fn put(a: &mut [u32], i: usize, v: u32)
     }
 }
 
-fn put_link(links: &mut [u64], i: usize, w: u64)
-    ensures { λ _. ⌜ now (links .exit) ≡ set (now (links .entry)) i w ⌝ }
+pub fn put_wide(a: &mut [u64], i: usize, w: u64)
+    ensures { λ _. ⌜ now (a .exit) ≡ set (now (a .entry)) i w ⌝ }
 {
-    if i < links.len() {
-        links[i] = w;
+    if i < a.len() {
+        a[i] = w;
     }
 }
 
 // The mark at place n of the segment that starts there: the segment's part of the pool is lent on.
-fn put_mark(pool: &mut [u32], start: u32, n: Place, mark: u32)
+fn put_mark(pool: &mut [Mark], start: u32, n: Place, mark: Mark)
     ensures { λ _. ⌜ now (pool .exit) ≡ set (now (pool .entry)) (start + offsetOf (n .0)) mark ⌝ }
 {
     let from = start as usize;
@@ -41,15 +42,15 @@ pub fn store(
     readings: &mut [u32],
     links: &mut [u64],
     directory: &mut [u32],
-    pool: &mut [u32],
+    pool: &mut [Mark],
     change: Change,
 )
     ensures { λ _. ⌜ memory (now (readings .exit)) (now (links .exit)) (now (directory .exit)) (now (pool .exit)) ≡ memoryAfter change (memory (now (readings .entry)) (now (links .entry)) (now (directory .entry)) (now (pool .entry))) ⌝ }
 {
     match change {
         Change::Nothing => {}
-        Change::Reading(i, v) => put(readings, i.0 as usize, v),
-        Change::Link(i, w) => put_link(links, i.0 as usize, w),
+        Change::Reading(i, v) => put(readings, i, v),
+        Change::Link(i, w) => put_wide(links, i, w),
         Change::Directory(k, start) => put(directory, k, start),
         Change::Mark(start, n, mark) => put_mark(pool, start, n, mark),
         Change::Marks(_) => {}

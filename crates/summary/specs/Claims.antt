@@ -14,7 +14,8 @@ OneSummary = (s : State) (h : ℕ) (mem : Memory) (r r′ : Summary) → r ≡ s
 
 -- No quarter counts with the filling rule: another rule changes nothing.
 abbrev pub filledBy : ℕ → ℕ → State → State
-filledBy first step s = record { p = s .p; m = s .m; first = first; step = step; top = s .top; lanes = s .lanes }
+filledBy first step s =
+    record { terms = record { p = s .terms .p; m = s .terms .m; first = first; step = step }; top = s .top; lanes = s .lanes }
 
 abbrev pub WithoutFilling : Type 0
 WithoutFilling = (s : State) (first step h : ℕ) (mem : Memory) → summaryOf (filledBy first step s) h mem ≡ summaryOf s h mem

@@ -6,7 +6,7 @@ use mathlib.Core.Bool.{Bool, true, false, not, _||_}
 use mathlib.Core.List.{List, [], _∷_}
 use lib.Dec.{ltb, eqb}
 use lib.ListN.{length}
-use Rattle.numbers.specs.declared.Cell.{Cell}
+use Rattle.numbers.specs.Cells.{cellAt}
 use Rattle.refusals.specs.Orders.{Rule, _gives_, orders}
 use Rattle.logic.specs.Pick.{pick}
 use Rattle.refusals.specs.declared.Refusal.the-variants as Refusal
@@ -39,12 +39,9 @@ hourOf vs = record { peak = greatest vs; mean = sumOf vs / length vs; count = le
 abbrev pub fourFrom : ℕ → List ℕ
 fourFrom i = i ∷ ((i + 1) ∷ ((i + 2) ∷ ((i + 3) ∷ [])))
 
-abbrev pub cellAt : ℕ → Cell
-cellAt i = record { 0 = i }
-
 abbrev pub quarters : State → Memory → List ℕ → List Quarter
 quarters s mem [] = []
-quarters s mem (i ∷ is) = readingAt s (cellAt i) mem ∷ quarters s mem is
+quarters s mem (i ∷ is) = readingAt s (cellAt (s .terms) i) mem ∷ quarters s mem is
 
 -- 9 (word): a word of some quarter's check lies outside its memory.
 abbrev pub outside : Quarter → Bool
@@ -70,8 +67,8 @@ quartersOf s h mem = quarters s mem (fourFrom (4 * h))
 -- Hour summary: 9 (state), 8, 10, 5, 9 (word), then 18 when none of the four is written.
 abbrev pub summaryRefusals : State → ℕ → Memory → List Rule
 summaryRefusals s h mem =
-    unfit (scanOf s) gives Refusal.OutOfRange ∷ not (lengthsFit (s .p) (s .m) mem) gives Refusal.OtherLengths
-    ∷ atWork (scanOf s) gives Refusal.AtWork ∷ not (ltb h (s .m / 4)) gives Refusal.NoSuchCell
+    unfit (scanOf s) gives Refusal.OutOfRange ∷ not (lengthsFit (s .terms) mem) gives Refusal.OtherLengths
+    ∷ atWork (scanOf s) gives Refusal.AtWork ∷ not (ltb h (s .terms .m / 4)) gives Refusal.NoSuchCell
     ∷ anyOutside (quartersOf s h mem) gives Refusal.OutOfRange
     ∷ eqb (length (writtenAmong (quartersOf s h mem))) 0 gives Refusal.NothingWritten ∷ []
 

@@ -8,6 +8,7 @@ ghost use Rattle.summary.specs.Inner.{Few, Counts, Mean, hourFrom, summe
 use acts::opens;
 use lanes::State;
 use numbers::Cell;
+use numbers::Mark;
 use quiet::Quarter;
 use refusals::Refusal;
 
@@ -130,7 +131,7 @@ fn quarters(
     readings: &[u32],
     links: &[u64],
     directory: &[u32],
-    pool: &[u32],
+    pool: &[Mark],
 ) -> Summary
     requires { ⌜ i + 3 < 4294967296 ⌝ }
     ensures { λ r. ⌜ r ≡ summaryAs (quarters s (memory (now (readings .entry)) (now (links .entry)) (now (directory .entry)) (now (pool .entry))) (fourFrom i)) ⌝ }
@@ -149,7 +150,7 @@ pub fn hour_summary(
     readings: &[u32],
     links: &[u64],
     directory: &[u32],
-    pool: &[u32],
+    pool: &[Mark],
 ) -> Summary
     ensures { λ r. ⌜ r ≡ summaryOf s h (memory (now (readings .entry)) (now (links .entry)) (now (directory .entry)) (now (pool .entry))) ⌝ }
 {
@@ -157,13 +158,13 @@ pub fn hour_summary(
     if quiet::unfit(shown) {
         return Summary::Refused(Refusal::OutOfRange);
     }
-    if !opens::lengths_fit(s.p, s.m, readings, links, directory, pool) {
+    if !opens::lengths_fit(s.terms, readings, links, directory, pool) {
         return Summary::Refused(Refusal::OtherLengths);
     }
     if quiet::at_work(shown) {
         return Summary::Refused(Refusal::AtWork);
     }
-    if s.m / 4 <= h {
+    if s.terms.m / 4 <= h {
         return Summary::Refused(Refusal::NoSuchCell);
     }
     quarters(s, 4 * h, readings, links, directory, pool)

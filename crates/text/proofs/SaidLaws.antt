@@ -1,21 +1,23 @@
 -- The lines of the output from their words and numbers: none is cut.
 -- Assumes nothing.
 use Prim.Native.Nat.{ℕ, suc, _+_, _^_, _<_, _≤_}
-use mathlib.Core.Path.{_≡_, ap, _∙_}
+use mathlib.Core.Path.{_≡_}
 use mathlib.Core.Bool.{Bool, true, false}
 use mathlib.Core.List.{List, [], _++_}
 use native.Mathlib.Omega.{arith}
 use lib.ListN.{length, length-append}
-use lib.Seq.{take-all}
 use Rattle.refusals.specs.Numbers.{numberOf}
 use Rattle.refusals.specs.declared.Refusal.{Refusal}
 use Rattle.acts.specs.declared.Answer.{Answer}
 use Rattle.acts.specs.declared.Answer.the-variants as Answer
-use Rattle.text.specs.Text.{word, newline, decimal, bit, two, three, saying, answerLine, sizesLine, fileRefusedLine, refusedLine, Placed, putOf}
-use Rattle.text.specs.Laws.{decimal-short}
-use Rattle.text.specs.declared.line.Line.{Line}
-use Rattle.text.specs.Inner.{room, soFar, cut, Grown, Made, Said, Answered}
-use Rattle.text.proofs.LineLaws.{then}
+use Rattle.text.specs.Text.{bit, two, three, saying, answerLine, sizesLine, fileRefusedLine, refusedLine}
+use Rattle.byte_lists.specs.Bytes.{word, newline, decimal}
+use Rattle.byte_lists.specs.Decimals.{decimal-short}
+use Rattle.byte_lists.specs.declared.line.Line.{Line}
+use Rattle.text.specs.Inner.{Said, Answered}
+use Rattle.byte_lists.specs.Lines.{cut, Grown, Made}
+use Rattle.byte_lists.proofs.MadeLaws.{made}
+use Rattle.byte_lists.proofs.LineLaws.{then}
 
 pub two-is : (l x y r : Line) (v n : ℕ) → Grown l x (decimal v) → Grown x y (word " ") → Grown y r (decimal n) → Grown l r (two v n)
 two-is l x y r v n e f g = then l x r (decimal v) (word " " ++ decimal n) e (then x y r (word " ") (decimal n) f g)
@@ -39,7 +41,8 @@ module _ (l r : Line) (a : Answer) where
   pub said-going : a ≡ Answer.Going → Grown l r (word "going") → Said l r a
   said-going e g = rw e (record { grown = g; short = omega arith })
 
-  pub said-read : (x : Line) (b : Bool) (v w n : ℕ) → v < 4294967296 → w ≡ bit b → n < 256 → a ≡ Answer.Read v b n → Grown l x (word "read ") → Grown x r (three v w n)
+  pub said-read : (x : Line) (b : Bool) (v w n : ℕ) → v < 4294967296 → w ≡ bit b → n < 256 → a ≡ Answer.Read v b n → Grown l x (word "read ")
+      → Grown x r (three v w n)
       → Said l r a
   said-read x b v w n h i k e f g =
       let g′ : Grown x r (three v (bit b) n) = rw i at g in
@@ -73,7 +76,8 @@ module _ (l r : Line) (a : Answer) where
         short = omega (arith, two-length 0 (bit b) n (small b) k, length-append (word "asked ") (two (bit b) n));
       })
 
-  pub said-refused : (x : Line) (y : Refusal) (n : ℕ) → n ≡ numberOf y → n < 4294967296 → a ≡ Answer.Refused y → Grown l x (word "refused ") → Grown x r (decimal n) → Said l r a
+  pub said-refused : (x : Line) (y : Refusal) (n : ℕ) → n ≡ numberOf y → n < 4294967296 → a ≡ Answer.Refused y → Grown l x (word "refused ")
+      → Grown x r (decimal n) → Said l r a
   said-refused x y n i k e f g =
       let g′ : Grown x r (decimal (numberOf y)) = rw i at g in
       let low : numberOf y < 4294967296 = rw i at k in
@@ -82,11 +86,6 @@ module _ (l r : Line) (a : Answer) where
         grown = then l x r (word "refused ") (decimal (numberOf y)) f g′;
         short = omega (arith, decimal-short 9 (numberOf y) (omega arith), length-append (word "refused ") (decimal (numberOf y)));
       })
-
--- a line from nothing that fits its room
-made : (o r : Line) (bytes : List ℕ) → Made o [] → Grown o r bytes → length bytes ≤ room → Made r bytes
-made o r bytes e g h =
-    record { sized = g .sized; is = g .is ∙ ap (λ (xs : List ℕ). cut (xs ++ bytes)) (e .is) ∙ take-all room bytes h }
 
 pub answered : (o x y z r : Line) (k : ℕ) (a : Answer) → k < 18446744073709551616 → Made o [] → Grown o x (decimal k) → Grown x y (word " ")
     → Said y z a → Grown z r newline → Answered k a r
@@ -144,12 +143,3 @@ module _ (o x y r : Line) (n : ℕ) (f : Refusal) (i : n ≡ numberOf f) (h : n 
   pub refused-is : Grown o x (word "refused ") → Grown x y (decimal n) → Grown y r newline → Made r (refusedLine f)
   unfolding refusedLine
   refused-is = numbered (word "refused ") o x y r n f (omega arith) i h e
-
--- the line is what is put
-pub put-made : (l : Line) (bytes out : List ℕ) (at : ℕ) (p : Placed) → Made l bytes → p ≡ putOf out at (soFar l) → p ≡ putOf out at bytes
-put-made l bytes out at p m e = e ∙ ap (λ (xs : List ℕ). putOf out at xs) (m .is)
-
-pub put-number : (o l : Line) (out : List ℕ) (at n : ℕ) (p : Placed) → n < 18446744073709551616 → Made o [] → Grown o l (decimal n)
-    → p ≡ putOf out at (soFar l) → p ≡ putOf out at (decimal n)
-put-number o l out at n p h m g e =
-    put-made l (decimal n) out at p (made o l (decimal n) m g (omega (arith, decimal-short 19 n (omega arith)))) e

@@ -1,32 +1,12 @@
--- What functions inside the crate promise of a line that is being made; no statement cites it.
+-- What functions inside the crate promise of an answer's line; no statement cites it.
 -- Assumes nothing.
 use Prim.Native.Nat.{ℕ, _+_, _≤_}
-use mathlib.Core.Path.{_≡_}
-use mathlib.Core.List.{List, _++_}
-use lib.ListN.{length, take}
+use lib.ListN.{length}
+use Rattle.byte_lists.specs.Lines.{Grown, Made}
 use Rattle.acts.specs.declared.Answer.{Answer}
-use Rattle.text.specs.declared.line.Line.{Line}
-use Rattle.text.specs.Text.{decimal, saying, answerLine}
-
--- The most bytes that a line takes, and those that it has so far.
-abbrev pub room : ℕ
-room = 64
-
-abbrev pub cut : List ℕ → List ℕ
-cut bytes = take room bytes
-
-abbrev pub soFar : Line → List ℕ
-soFar l = take (l .len) (l .bytes)
-
--- A line to which bytes were added: what goes past its room is cut off.
-pub record Grown (l r : Line) (bytes : List ℕ) : Type 0 where
-  pub sized : length (r .bytes) ≡ room
-  pub is : soFar r ≡ cut (soFar l ++ bytes)
-
--- A line that is done.
-pub record Made (r : Line) (bytes : List ℕ) : Type 0 where
-  pub sized : length (r .bytes) ≡ room
-  pub is : soFar r ≡ bytes
+use Rattle.byte_lists.specs.declared.line.Line.{Line}
+use Rattle.text.specs.Text.{saying, answerLine}
+use Rattle.byte_lists.specs.Bytes.{decimal}
 
 -- An answer was added, and is short.
 pub record Said (l r : Line) (a : Answer) : Type 0 where

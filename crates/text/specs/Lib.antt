@@ -1,4 +1,3 @@
 pub mod Text
-pub mod Laws
-pub mod Places
+pub mod Lengths
 pub mod Inner

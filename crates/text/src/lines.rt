@@ -2,10 +2,11 @@
 ghost use mathlib.Core.Path.{_≡_};
 ghost use Rattle.text.specs.Text.{bit, two, three, sizesLine, fileRefusedLine, refusedLine};
 ghost use lib.ListN.{length};
-ghost use Rattle.text.specs.Inner.{room, Grown, Made, Said, Answered};
-use super::line;
-use super::line::Line;
+ghost use Rattle.text.specs.Inner.{Said, Answered};
+ghost use Rattle.byte_lists.specs.Lines.{room, Grown, Made};
 use acts::Answer;
+use byte_lists::line;
+use byte_lists::line::Line;
 use refusals::Refusal;
 
 fn two(l: Line, v: u64, n: u64) -> Line

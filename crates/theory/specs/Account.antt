@@ -6,9 +6,9 @@ use Prim.Native.Nat.{ℕ, suc, _+_, _^_, _≤_, _<_}
 use native.Mathlib.Decide.{ℕ-discrete}
 use native.Mathlib.Omega.{arith}
 use Rattle.theory.specs.Base.{upd, upd-same, upd-other}
-use Rattle.theory.specs.Array.{Op}
+use Rattle.theory.specs.Array.{Op, Writing}
 use Rattle.theory.specs.Machine.{Grid, Link, mk, Stage, busy, Mem, Next, go, end, Watch, nextLane, finish}
-use Rattle.theory.specs.Run.{Tally, Writing}
+use Rattle.theory.specs.Run.{Tally}
 use Rattle.theory.specs.Standing.{frontAt, front}
 
 module _ (G : Grid) (oldLink : ℕ → Link) (T : Tally) where
@@ -34,15 +34,19 @@ module _ (G : Grid) (oldLink : ℕ → Link) (T : Tally) where
   abbrev pub Forward : Mem → Mem → Type 0
   Forward M M′ = (j : ℕ) → (M′ .link j ≡ M .link j) ⊎ ((M .link j ≡ oldLink j) × (T .cells j ≡ 1))
 
-pub owed-forward : {G : Grid} {oldLink : ℕ → Link} {T : Tally} {M M′ : Mem} {q k : ℕ} → Forward G oldLink T M M′ → Owed G oldLink T M q k → Owed G oldLink T M′ q k
+pub owed-forward : {G : Grid} {oldLink : ℕ → Link} {T : Tally} {M M′ : Mem} {q k : ℕ} → Forward G oldLink T M M′ → Owed G oldLink T M q k
+    → Owed G oldLink T M′ q k
 owed-forward {G} {oldLink} {T} {M} {M′} {q} {k} F h = record { i = h .i; cell = h .cell; begun = h .begun; which = by (h .which) (F (h .i)) }
   where
-    by : ((M .link (h .i) ≡ mk q k) × (oldLink (h .i) ≢ mk q k)) ⊎ (oldLink (h .i) ≡ mk q k) → (M′ .link (h .i) ≡ M .link (h .i)) ⊎ ((M .link (h .i) ≡ oldLink (h .i)) × (T .cells (h .i) ≡ 1)) → ((M′ .link (h .i) ≡ mk q k) × (oldLink (h .i) ≢ mk q k)) ⊎ (oldLink (h .i) ≡ mk q k)
+    by : ((M .link (h .i) ≡ mk q k) × (oldLink (h .i) ≢ mk q k)) ⊎ (oldLink (h .i) ≡ mk q k)
+        → (M′ .link (h .i) ≡ M .link (h .i)) ⊎ ((M .link (h .i) ≡ oldLink (h .i)) × (T .cells (h .i) ≡ 1))
+        → ((M′ .link (h .i) ≡ mk q k) × (oldLink (h .i) ≢ mk q k)) ⊎ (oldLink (h .i) ≡ mk q k)
     by (inr z) f = inr z
     by (inl z) (inl f) = inl (f ∙ z .0, z .1)
     by (inl z) (inr f) = absurd (z .1 (sym (f .0) ∙ z .0))
 
-module _ {G : Grid} {oldLink : ℕ → Link} {T : Tally} {w : Watch} (A : Account G oldLink T w) (q : ℕ) {o : Op} {i : ℕ} {g : Stage} (e : w .lane q ≡ busy o i g) (M : Mem) (nx : Next) where
+module _ {G : Grid} {oldLink : ℕ → Link} {T : Tally} {w : Watch} (A : Account G oldLink T w) (q : ℕ) {o : Op} {i : ℕ} {g : Stage}
+    (e : w .lane q ≡ busy o i g) (M : Mem) (nx : Next) where
   -- a step of q, from what it does to its own lane
   pub acc-step : Forward G oldLink T (w .mem) M → ((r : ℕ) → r ≢ q → M .inForce r ≡ w .mem .inForce r) → ((r : ℕ) → r ≢ q → M .drawn r ≡ w .mem .drawn r)
       → ((k : ℕ) → k < front (nextLane o i nx) (M .inForce q) → (k < frontAt g (w .mem .inForce q)) ⊎ Owed G oldLink T M q k)
@@ -62,14 +66,19 @@ module _ {G : Grid} {oldLink : ℕ → Link} {T : Tally} {w : Watch} (A : Accoun
       begun′ r v j g₁ k b = by (ℕ-discrete r q)
         where
           by : Dec (r ≡ q) → (T .cells j ≡ 1) × (T .procs r ≡ 1)
-          by (yes h) = rw h (A .begun q v j g (e ∙ same-op nx v j g₁ (sym (upd-same (w .lane) q (nextLane o i nx)) ∙ ap (upd (w .lane) q (nextLane o i nx)) (sym h) ∙ k)) b)
+          by (yes h) =
+              rw h
+              (A .begun q v j g
+              (e ∙ same-op nx v j g₁ (sym (upd-same (w .lane) q (nextLane o i nx)) ∙ ap (upd (w .lane) q (nextLane o i nx)) (sym h) ∙ k)) b)
           by (no h) = A .begun r v j g₁ (sym (upd-other (w .lane) q (nextLane o i nx) r h) ∙ k) b
 
       fronts′ : (r k : ℕ) → k < front (upd (w .lane) q (nextLane o i nx) r) (M .inForce r) → Owed G oldLink T M r k
       fronts′ r k = by (ℕ-discrete r q)
         where
           mine : k < front (nextLane o i nx) (M .inForce q) → Owed G oldLink T M q k
-          mine h = ⊎-elim (λ (y : k < frontAt g (w .mem .inForce q)). owed-forward {M = w .mem} {M′ = M} F (A .fronts q k (rw e y))) (λ (y : Owed G oldLink T M q k). y) (hf k h)
+          mine h =
+              ⊎-elim (λ (y : k < frontAt g (w .mem .inForce q)). owed-forward {M = w .mem} {M′ = M} F (A .fronts q k (rw e y)))
+              (λ (y : Owed G oldLink T M q k). y) (hf k h)
 
           by : Dec (r ≡ q) → k < front (upd (w .lane) q (nextLane o i nx) r) (M .inForce r) → Owed G oldLink T M r k
           by (yes h) = rw h (rw (upd-same (w .lane) q (nextLane o i nx)) mine)

@@ -1,115 +1,150 @@
 -- A step of any stage keeps the account.
 -- Assumes nothing.
 use mathlib.Core.Path.{_≡_, refl, sym, _∙_}
-use mathlib.Core.Logic.{_⊎_, inl, inr}
+use mathlib.Core.Logic.{_⊎_, inl, inr, _≢_}
 use mathlib.Core.Bool.{true, false}
 use Prim.Native.Nat.{ℕ, suc, _<_}
 use native.Mathlib.Decide.{ℕ-discrete, decLt}
 use native.Mathlib.Omega.{arith}
 use Rattle.theory.specs.Base.{pick, upd, upd-same, upd-other}
 use Rattle.theory.specs.Array.{Op, read, asked, write, got}
-use Rattle.theory.specs.Machine.{Grid, Link, mk, Stage, busy, Mem, keep, setLink, setInForce, setDrawn, setMark, Next, go, end, turnTo, poke, sameLink, usePlace, passed, plan, failed, takeTurn, nextLane, finish, stepped}
+use Rattle.theory.specs.Machine.{Grid, Link, mk, Seen, Marking, Stage, marking, busy, Mem, keep, setLink, setInForce, setDrawn, setMark}
+use Rattle.theory.specs.Machine.{Next, go, end, turnTo, poke, sameLink, usePlace, look, passed, plan, failed, markTurn, takeTurn}
+use Rattle.theory.specs.Machine.{Watch, nextLane, finish, stepped}
 use Rattle.theory.specs.Run.{Tally}
 use Rattle.theory.specs.Standing.{frontAt, front}
 use Rattle.theory.specs.World.{World}
-use Rattle.theory.specs.Claims.{Mine, mine-writes}
+use Rattle.theory.specs.Claims.{mine-writes}
 use Rattle.theory.specs.Inv.{BusyOk, Inv}
 use Rattle.theory.specs.Plan
 use Rattle.theory.specs.Steps.{busyOk}
 use Rattle.theory.specs.Swap.{unswapped}
 use Rattle.theory.specs.Account.{Owed, Account, Forward, owed-forward, acc-step}
 
-failed-front : (G : Grid) (M : Mem) (q : ℕ) (o : Op) (i : ℕ) (L : Link) → front (nextLane o i (failed G M q o i L)) (M .inForce q) ≡ M .inForce q
-failed-front G M q read i L = refl
-failed-front G M q asked i L = refl
-failed-front G M q (write v) i L = Plan.plan-stands G false M q L (M .inForce q) (M .inForce q) tt .front
+failed-front : (G : Grid) (M : Mem) (q : ℕ) (o : Op) (i : ℕ) (S : Seen)
+    → front (nextLane o i (failed G M q o i S)) (M .inForce q) ≡ M .inForce q
+failed-front G M q read i S = refl
+failed-front G M q asked i S = refl
+failed-front G M q (write v) i S = Plan.plan-stands G false M q S (M .inForce q) (M .inForce q) tt .front
 
 passed-front : (o : Op) (i c : ℕ) → front (nextLane o i (passed o)) c ≡ c
 passed-front read i c = refl
 passed-front asked i c = refl
 passed-front (write v) i c = refl
 
-pick-front : {P : Type 0} (d : Dec P) (o : Op) (i c : ℕ) (a b : Next) → front (nextLane o i a) c ≡ c → front (nextLane o i b) c ≡ c → front (nextLane o i (pick d a b)) c ≡ c
+pick-front : {P : Type 0} (d : Dec P) (o : Op) (i c : ℕ) (a b : Next) → front (nextLane o i a) c ≡ c
+    → front (nextLane o i b) c ≡ c → front (nextLane o i (pick d a b)) c ≡ c
 pick-front (yes k) o i c a b ha hb = ha
 pick-front (no k) o i c a b ha hb = hb
 
-module _ {G : Grid} {oldLink : ℕ → Link} {T : Tally} {W : World} (I : Inv G oldLink W) (A : Account G oldLink T (W .w)) where
+module _ {G : Grid} {oldLink : ℕ → Link} {T : Tally} {W : World} (I : Inv G oldLink W) (A : Account G oldLink T (W .w)) (q : ℕ) (o : Op) (i : ℕ) where
+  abbrev M : Mem
+  M = W .w .mem
+
+  abbrev after : Mem → Next → Watch
+  after M′ nx = record { mem = M′; lane = upd (W .w .lane) q (nextLane o i nx); now = suc (W .w .now); since = W .w .since; ended = finish (W .w) q o i nx }
+
   -- a step that leaves counts and links
-  acc-keep : (q : ℕ) {o : Op} {i : ℕ} {g : Stage} (e : W .w .lane q ≡ busy o i g) (nx : Next) (marks : ℕ → ℕ → ℕ) (reading : ℕ → ℕ) → front (nextLane o i nx) (W .w .mem .inForce q) ≡ frontAt g (W .w .mem .inForce q)
-      → Account G oldLink T (record { mem = record { reading = reading; link = W .w .mem .link; inForce = W .w .mem .inForce; drawn = W .w .mem .drawn; marks = marks }; lane = upd (W .w .lane) q (nextLane o i nx); now = suc (W .w .now); since = W .w .since; ended = finish (W .w) q o i nx })
-  acc-keep q {o} {i} {g} e nx marks reading h = acc-step A q e M nx (λ j. inl refl) (λ r ne. refl) (λ r ne. refl) (λ k hk. inl (rw h at hk)) (inl refl)
+  acc-keep : {g : Stage} (e : W .w .lane q ≡ busy o i g) (nx : Next) (marks : ℕ → ℕ → ℕ) (reading : ℕ → ℕ)
+      → front (nextLane o i nx) (M .inForce q) ≡ frontAt g (M .inForce q)
+      → Account G oldLink T (after (record { reading = reading; link = M .link; inForce = M .inForce; drawn = M .drawn; marks = marks }) nx)
+  acc-keep e nx marks reading h = acc-step A q e M′ nx (λ j. inl refl) (λ r ne. refl) (λ r ne. refl) (λ k hk. inl (rw h at hk)) (inl refl)
     where
-      M : Mem
-      M = record { reading = reading; link = W .w .mem .link; inForce = W .w .mem .inForce; drawn = W .w .mem .drawn; marks = marks }
+      M′ : Mem
+      M′ = record { reading = reading; link = M .link; inForce = M .inForce; drawn = M .drawn; marks = marks }
+
+  -- and all other words
+  acc-same : {g : Stage} (e : W .w .lane q ≡ busy o i g) (nx : Next) → front (nextLane o i nx) (M .inForce q) ≡ frontAt g (M .inForce q)
+      → Account G oldLink T (after M nx)
+  acc-same e nx = acc-keep e nx (M .marks) (M .reading)
+
+  -- the check goes on, passes or fails
+  acc-test : {X : Type 0} (z : Dec X) (g : Stage) (e : W .w .lane q ≡ busy o i g) → frontAt g (M .inForce q) ≡ M .inForce q → (nx : Next)
+      → front (nextLane o i nx) (M .inForce q) ≡ M .inForce q → (S : Seen)
+      → Account G oldLink T (after M (pick z nx (failed G M q o i S)))
+  acc-test z g e hg nx hn S = acc-same e (pick z nx (failed G M q o i S))
+      (pick-front z o i _ nx (failed G M q o i S) hn (failed-front G M q o i S) ∙ sym hg)
 
   -- the cell and the process of a write under way are counted
-  counted : (q : ℕ) {o : Op} {i : ℕ} {g : Stage} → W .w .lane q ≡ busy o i g → Mine G oldLink W q o i → (T .cells i ≡ 1) × (T .procs q ≡ 1)
-  counted q {o} {i} {g} e h = A .begun q o i g e (mine-writes G oldLink W q o i h)
+  counted : {k : Marking} → W .w .lane q ≡ busy o i (marking k) → (T .cells i ≡ 1) × (T .procs q ≡ 1)
+  counted {k} e = A .begun q o i (marking k) e (mine-writes G oldLink W q o i (busyOk I q e .at .0))
 
   -- a won swap: the place is now owed to the cell's new link
-  acc-swap : (q : ℕ) (o : Op) (i : ℕ) (L : Link) (n : ℕ) (e : W .w .lane q ≡ busy o i (Stage.swap L n)) → W .w .mem .link i ≡ L → (nx : Next) (reading : ℕ → ℕ) → front (nextLane o i nx) (W .w .mem .inForce q) ≡ W .w .mem .inForce q
-      → Account G oldLink T (record { mem = record { reading = reading; link = upd (W .w .mem .link) i (mk q n); inForce = W .w .mem .inForce; drawn = W .w .mem .drawn; marks = W .w .mem .marks }; lane = upd (W .w .lane) q (nextLane o i nx); now = suc (W .w .now); since = W .w .since; ended = finish (W .w) q o i nx })
-  acc-swap q o i L n e z nx reading hn = acc-step A q e M nx moved (λ r ne. refl) (λ r ne. refl) (λ k hk. owed′ k (rw hn at hk)) (inl refl)
+  acc-swap : (S : Seen) (n : ℕ) (e : W .w .lane q ≡ busy o i (marking (Marking.swap S n))) → M .link i ≡ S .at
+      → Account G oldLink T (after (poke M q (setLink i (mk q n))) (passed o))
+  acc-swap S n e z = acc-step A q e M′ (passed o) moved (λ r ne. refl) (λ r ne. refl) (λ k hk. owed′ k (rw (passed-front o i) at hk)) (inl refl)
     where
-      b : BusyOk G oldLink W q o i (Stage.swap L n)
+      b : BusyOk G oldLink W q o i (marking (Marking.swap S n))
       b = busyOk I q e
 
-      M : Mem
-      M = record { reading = reading; link = upd (W .w .mem .link) i (mk q n); inForce = W .w .mem .inForce; drawn = W .w .mem .drawn; marks = W .w .mem .marks }
+      M′ : Mem
+      M′ = poke M q (setLink i (mk q n))
 
-      moved : Forward G oldLink T (W .w .mem) M
+      moved : Forward G oldLink T M M′
       moved j = at-j (ℕ-discrete j i)
         where
-          at-j : Dec (j ≡ i) → (M .link j ≡ W .w .mem .link j) ⊎ ((W .w .mem .link j ≡ oldLink j) × (T .cells j ≡ 1))
-          at-j (yes y) = inr (rw y (unswapped I q e z, counted q e (b .at .0 .wrote) .0))
-          at-j (no y) = inl (upd-other (W .w .mem .link) i (mk q n) j y)
+          at-j : Dec (j ≡ i) → (M′ .link j ≡ M .link j) ⊎ ((M .link j ≡ oldLink j) × (T .cells j ≡ 1))
+          at-j (yes y) = inr (rw y (unswapped I q e z, counted e .0))
+          at-j (no y) = inl (upd-other (M .link) i (mk q n) j y)
 
-      owed′ : (k : ℕ) → k < W .w .mem .inForce q → (k < n) ⊎ Owed G oldLink T M q k
+      owed′ : (k : ℕ) → k < M .inForce q → (k < n) ⊎ Owed G oldLink T M′ q k
       owed′ k hk = at-k (ℕ-discrete k n)
         where
-          at-k : Dec (k ≡ n) → (k < n) ⊎ Owed G oldLink T M q k
-          at-k (yes y) = inr (record { i = i; cell = b .cell; begun = counted q e (b .at .0 .wrote) .0; which = inl (rw y (upd-same (W .w .mem .link) i (mk q n)), rw y (I .places q n i (b .cell) (b .at .0 .high) (b .at .0 .there))) })
-          at-k (no y) = inl (omega (arith, b .at .1))
+          linked : (M′ .link i ≡ mk q n) × (oldLink i ≢ mk q n)
+          linked = (upd-same (M .link) i (mk q n), I .places q n i (b .cell) (b .at .1 .0 .high) (b .at .1 .0 .there))
 
-  pub acc-stage : (q : ℕ) (o : Op) (i : ℕ) (g : Stage) → W .w .lane q ≡ busy o i g → Account G oldLink T (stepped (W .w) q o i (takeTurn G (W .w .mem) q o i g))
-  acc-stage q o i Stage.store e = acc-keep q e (go Stage.checkLink) (W .w .mem .marks) _ refl
-  acc-stage q o i Stage.checkLink e = acc-keep q e (takeTurn G (W .w .mem) q o i Stage.checkLink .next) (W .w .mem .marks) (W .w .mem .reading) (pick-front (decLt (W .w .mem .link i .proc) (G .p)) o i _ (go (Stage.checkMarks (W .w .mem .link i))) (failed G (W .w .mem) q o i (W .w .mem .link i)) refl (failed-front G (W .w .mem) q o i (W .w .mem .link i)))
-  acc-stage q o i (Stage.checkMarks L) e = acc-keep q e (takeTurn G (W .w .mem) q o i (Stage.checkMarks L) .next) (W .w .mem .marks) (W .w .mem .reading) (pick-front (decLt (L .place) (W .w .mem .inForce (L .proc))) o i _ (go (Stage.checkDirectory L)) (failed G (W .w .mem) q o i L) refl (failed-front G (W .w .mem) q o i L))
-  acc-stage q o i (Stage.checkDirectory L) e = acc-keep q e (go (Stage.checkMark L)) (W .w .mem .marks) (W .w .mem .reading) refl
-  acc-stage q o i (Stage.checkMark L) e = acc-keep q e (takeTurn G (W .w .mem) q o i (Stage.checkMark L) .next) (W .w .mem .marks) (W .w .mem .reading) (pick-front (ℕ-discrete (W .w .mem .marks (L .proc) (L .place)) (G .code i)) o i _ (passed o) (failed G (W .w .mem) q o i L) (passed-front o i _) (failed-front G (W .w .mem) q o i L))
-  acc-stage q o i Stage.fetch e = acc-keep q e (end (got (W .w .mem .reading i) true)) (W .w .mem .marks) (W .w .mem .reading) refl
-  acc-stage q o i (Stage.draw s L n) e = acc-step A q e M (go (Stage.enter s L n)) (λ j. inl refl) (λ r ne. refl) (λ r ne. upd-other (W .w .mem .drawn) q (suc (G .shape .seg n)) r ne) (λ k hk. inl hk)
-      (inr (record { n = n; small = inr (rw (upd-same (W .w .mem .drawn) q (suc (G .shape .seg n))) (G .shape .low n), counted q e (b .at .0 .wrote) .1); owed = λ k hk. owed-forward (λ j. inl refl) (A .fronts q k (rw e hk)) }))
+          at-k : Dec (k ≡ n) → (k < n) ⊎ Owed G oldLink T M′ q k
+          at-k (yes y) = inr (record { i = i; cell = b .cell; begun = counted e .0; which = inl (rw y linked) })
+          at-k (no y) = inl (omega (arith, b .at .1 .1))
+
+  acc-marking : (k : Marking) → W .w .lane q ≡ busy o i (marking k) → Account G oldLink T (stepped (W .w) q o i (markTurn G M q o i k))
+  acc-marking (Marking.draw s S n) e = acc-step A q e (poke M q (setDrawn (suc (G .shape .seg n)))) (go (marking (Marking.enter s S n)))
+      (λ j. inl refl) (λ r ne. refl) (λ r ne. upd-other (M .drawn) q (suc (G .shape .seg n)) r ne) (λ k hk. inl hk)
+      (inr (record {
+        n = n;
+        small = inr (rw (upd-same (M .drawn) q (suc (G .shape .seg n))) (G .shape .low n), counted e .1);
+        owed = λ k hk. owed-forward (λ j. inl refl) (A .fronts q k (rw e hk));
+      }))
+  acc-marking (Marking.enter s S n) e = acc-same e (go (marking (usePlace s q S n))) (Plan.use-stands s q S n _ (busyOk I q e .at .1 .1) .front)
+  acc-marking (Marking.tombstone S n) e =
+      acc-step A q e M′ (go (marking (plan G true M q S (suc n)))) (λ j. inl refl) (λ r ne. refl) (λ r ne. refl) owed′ (inl refl)
     where
-      M : Mem
-      M = poke (W .w .mem) q (setDrawn (suc (G .shape .seg n)))
+      M′ : Mem
+      M′ = poke M q (setMark n (G .grave))
 
-      b : BusyOk G oldLink W q o i (Stage.draw s L n)
-      b = busyOk I q e
-  acc-stage q o i (Stage.enter s L n) e = acc-keep q e (go (usePlace s q L n)) (W .w .mem .marks) (W .w .mem .reading) (Plan.use-stands s q L n _ (busyOk I q e .at .1) .front)
-  acc-stage q o i (Stage.tombstone L n) e = acc-step A q e M (go (plan G true (W .w .mem) q L (suc n))) (λ j. inl refl) (λ r ne. refl) (λ r ne. refl) owed′ (inl refl)
-    where
-      M : Mem
-      M = poke (W .w .mem) q (setMark n (G .grave))
-
-      b : BusyOk G oldLink W q o i (Stage.tombstone L n)
+      b : BusyOk G oldLink W q o i (marking (Marking.tombstone S n))
       b = busyOk I q e
 
-      owed′ : (k : ℕ) → k < frontAt (plan G true (W .w .mem) q L (suc n)) (W .w .mem .inForce q) → (k < n) ⊎ Owed G oldLink T M q k
-      owed′ k hk = by (ℕ-discrete k n)
+      stands : front (nextLane o i (go (marking (plan G true M q S (suc n))))) (M .inForce q) ≡ suc n
+      stands = Plan.plan-stands G true M q S (suc n) (M .inForce q) (Plan.past-tombstone q S n (b .at .1 .1)) .front
+
+      owed′ : (k : ℕ) → k < frontAt (marking (plan G true M q S (suc n))) (M .inForce q) → (k < n) ⊎ Owed G oldLink T M′ q k
+      owed′ k hk = by (ℕ-discrete k n) (rw stands at hk)
         where
-          hk′ : k < suc n
-          hk′ = rw (Plan.plan-stands G true (W .w .mem) q L (suc n) (W .w .mem .inForce q) (Plan.past-tombstone q L n (b .at .1)) .front) at hk
-
-          by : Dec (k ≡ n) → (k < n) ⊎ Owed G oldLink T M q k
-          by (yes z) = inr (record { i = i; cell = b .cell; begun = counted q e (b .at .0 .wrote) .0; which = inr (rw z (sym (b .at .0 .bad) ∙ b .at .1)) })
-          by (no z) = inl (omega (arith, hk′))
-  acc-stage q o i (Stage.mark L n) e = acc-keep q e (go (Stage.force L n)) _ (W .w .mem .reading) refl
-  acc-stage q o i (Stage.force L n) e = acc-step A q e (poke (W .w .mem) q (setInForce (suc n))) (go (Stage.swap L n)) (λ j. inl refl) (λ r ne. upd-other (W .w .mem .inForce) q (suc n) r ne) (λ r ne. refl) (λ k hk. inl hk) (inl refl)
-  acc-stage q o i (Stage.swap L n) e = by (sameLink (W .w .mem .link i) L)
+          by : Dec (k ≡ n) → k < suc n → (k < n) ⊎ Owed G oldLink T M′ q k
+          by (yes z) hk = inr (record { i = i; cell = b .cell; begun = counted e .0; which = inr (rw z (sym (b .at .1 .0 .bad) ∙ b .at .1 .1)) })
+          by (no z) hk = inl (omega arith)
+  acc-marking (Marking.mark S n) e = acc-keep e (go (marking (Marking.force S n))) _ (M .reading) refl
+  acc-marking (Marking.force S n) e = acc-step A q e (poke M q (setInForce (suc n))) (go (marking (Marking.swap S n)))
+      (λ j. inl refl) (λ r ne. upd-other (M .inForce) q (suc n) r ne) (λ r ne. refl) (λ k hk. inl hk) (inl refl)
+  acc-marking (Marking.swap S n) e = by (sameLink (M .link i) (S .at))
     where
-      by : (d : Dec (W .w .mem .link i ≡ L)) → Account G oldLink T (stepped (W .w) q o i (pick d (turnTo (setLink i (mk q n)) (passed o)) (turnTo keep (go (Stage.takeBack n)))))
-      by (no z) = acc-keep q e (go (Stage.takeBack n)) (W .w .mem .marks) (W .w .mem .reading) refl
-      by (yes z) = acc-swap q o i L n e z (passed o) (W .w .mem .reading) (passed-front o i _)
-  acc-stage q o i (Stage.takeBack n) e = acc-step A q e (poke (W .w .mem) q (setInForce n)) (passed o) (λ j. inl refl) (λ r ne. upd-other (W .w .mem .inForce) q n r ne) (λ r ne. refl)
-      (λ k hk. inl (rw (upd-same (W .w .mem .inForce) q n) at (rw (passed-front o i (upd (W .w .mem .inForce) q n q)) at hk))) (inl refl)
+      by : (d : Dec (M .link i ≡ S .at))
+          → Account G oldLink T (stepped (W .w) q o i (pick d (turnTo (setLink i (mk q n)) (passed o)) (turnTo keep (go (marking (Marking.takeBack n))))))
+      by (no z) = acc-same e (go (marking (Marking.takeBack n))) refl
+      by (yes z) = acc-swap S n e z
+  acc-marking (Marking.takeBack n) e = acc-step A q e (poke M q (setInForce n)) (passed o)
+      (λ j. inl refl) (λ r ne. upd-other (M .inForce) q n r ne) (λ r ne. refl)
+      (λ k hk. inl (rw (upd-same (M .inForce) q n) at (rw (passed-front o i (upd (M .inForce) q n q)) at hk))) (inl refl)
+
+  pub acc-stage : (g : Stage) → W .w .lane q ≡ busy o i g → Account G oldLink T (stepped (W .w) q o i (takeTurn G M q o i g))
+  acc-stage Stage.store e = acc-keep e (go Stage.checkLink) (M .marks) _ refl
+  acc-stage Stage.checkLink e = let S = look M i in
+      acc-test (decLt (S .at .proc) (G .p)) Stage.checkLink e refl (go (Stage.checkMarks S)) refl S
+  acc-stage (Stage.checkMarks S) e =
+      acc-test (decLt (S .at .place) (M .inForce (S .at .proc))) (Stage.checkMarks S) e refl (go (Stage.checkDirectory S)) refl S
+  acc-stage (Stage.checkDirectory S) e = acc-same e (go (Stage.checkMark S)) refl
+  acc-stage (Stage.checkMark S) e =
+      acc-test (ℕ-discrete (M .marks (S .at .proc) (S .at .place)) (G .code i)) (Stage.checkMark S) e refl (passed o) (passed-front o i _) S
+  acc-stage Stage.fetch e = acc-same e (end (got (M .reading i) true)) refl
+  acc-stage (marking k) e = acc-marking k e

@@ -17,6 +17,12 @@ pub data Ans : Type 0 where
   told : Bool → Ans
   done : Ans
 
+-- The operations that count as a write.
+abbrev pub Writing : Op → Type 0
+Writing read = ⊥
+Writing asked = ⊥
+Writing (write v) = Unit {0}
+
 -- an operation on a cell
 pub record Deed : Type 0 where
   pub op : Op

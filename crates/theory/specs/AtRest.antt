@@ -6,10 +6,10 @@ use mathlib.Core.Bool.{true, false}
 use mathlib.Core.List.{List·Memᴰ}
 use Prim.Native.Nat.{ℕ, _<_}
 use native.Mathlib.Omega.{arith}
-use Rattle.theory.specs.Order.{Done, Entry, Is}
+use Rattle.theory.specs.Order.{Done, Entry, Is, valueIn, writtenIn}
 use Rattle.theory.specs.Machine.{Grid, idle, busy}
 use Rattle.theory.specs.Run.{Run}
-use Rattle.theory.specs.OrderLaws.{valueIn, writtenIn, value-unwritten}
+use Rattle.theory.specs.OrderLaws.{value-unwritten}
 use Rattle.theory.specs.Inv.{Under, CellOk, old, new}
 use Rattle.theory.specs.Whole.{Whole, worldOf}
 
@@ -32,7 +32,8 @@ module _ {G : Grid} {R : Run} (H : Whole G R) where
     pub all-ended : (e : Entry) → List·Memᴰ e (H .log) → (d : Done) × List·Memᴰ d (R .watch .ended) × Is e d
     all-ended e m =
         ⊎-elim (λ (h : (d : Done) × List·Memᴰ d (R .watch .ended) × Is e d). h)
-        (λ (u : Under G (H .oldLink) (worldOf H) e). absurd (let k : idle ≡ busy (e .op) (e .cell) (u .stage) = sym (still (e .who)) ∙ u .lane in let y : _≡_ {A = ℕ} 0 1 = cc in omega arith))
+        (λ (u : Under G (H .oldLink) (worldOf H) e). absurd
+        (let k : idle ≡ busy (e .op) (e .cell) (u .stage) = sym (still (e .who)) ∙ u .lane in let y : _≡_ {A = ℕ} 0 1 = cc in omega arith))
         (H .inv .logs .sound e m)
 
     pub cell-at-rest : (i : ℕ) → i < G .m → CellAtRest i

@@ -18,7 +18,8 @@ use Rattle.theory.specs.Inv.{StageOk, BusyOk, LaneOk, CellOk, old, new, 
 use Rattle.theory.specs.ClaimsKept.{Frame}
 use Rattle.theory.specs.Frame.{lane-frame}
 
-module _ {G : Grid} {oldLink : ℕ → Link} {W : World} (I : Inv G oldLink W) (q : ℕ) (o : Op) (i : ℕ) (free : W .w .lane q ≡ idle) (hq : q < G .p) (hi : i < G .m) where
+module _ {G : Grid} {oldLink : ℕ → Link} {W : World} (I : Inv G oldLink W) (q : ℕ) (o : Op) (i : ℕ) (free : W .w .lane q ≡ idle) (hq : q < G .p)
+    (hi : i < G .m) where
   abbrev pub opening : World
   opening = record { w = started (W .w) q o i; log = W .log; used = W .used }
 
@@ -56,7 +57,12 @@ module _ {G : Grid} {oldLink : ℕ → Link} {W : World} (I : Inv G oldLink W) (
     link = λ j h. refl;
     more = λ z m. m;
     fresh = λ r o₁ i₁ g₁ ne k ns u z m. rw (since-other r ne) (u z m);
-    wrote = λ r o₁ i₁ g₁ ne k a h. record { v = h .v; is = h .is; new = λ t. (h .new t .0, rw (since-other r ne) (h .new t .1)); old = λ t z m. rw (since-other r ne) (h .old t z m) };
+    wrote = λ r o₁ i₁ g₁ ne k a h. record {
+      v = h .v;
+      is = h .is;
+      new = λ t. (h .new t .0, rw (since-other r ne) (h .new t .1));
+      old = λ t z m. rw (since-other r ne) (h .old t z m);
+    };
   }
 
   fresh-me : Unplaced G oldLink opening q
@@ -119,31 +125,46 @@ module _ {G : Grid} {oldLink : ℕ → Link} {W : World} (I : Inv G oldLink W) (
       cell j (old t k s) = old t k (λ r v h. let y = s r v (fro r j v h) in (y .0, to (y .0) j _ (y .1)))
       cell j (new t y v p₀ p₁ p₂) = new t y v p₀ (rw settled-same p₁) p₂
 
-      apart′ : (a r : ℕ) (o₁ o₂ : Op) (i₁ i₂ : ℕ) (g₁ g₂ : Stage) → upd (W .w .lane) q l a ≡ busy o₁ i₁ g₁ → upd (W .w .lane) q l r ≡ busy o₂ i₂ g₂ → upd (W .w .since) q (W .w .now) a ≡ upd (W .w .since) q (W .w .now) r → a ≡ r
+      apart′ : (a r : ℕ) (o₁ o₂ : Op) (i₁ i₂ : ℕ) (g₁ g₂ : Stage) → upd (W .w .lane) q l a ≡ busy o₁ i₁ g₁ → upd (W .w .lane) q l r ≡ busy o₂ i₂ g₂
+          → upd (W .w .since) q (W .w .now) a ≡ upd (W .w .since) q (W .w .now) r → a ≡ r
       apart′ a r o₁ o₂ i₁ i₂ g₁ g₂ h k = by (ℕ-discrete a q) (ℕ-discrete r q)
         where
           by : Dec (a ≡ q) → Dec (r ≡ q) → upd (W .w .since) q (W .w .now) a ≡ upd (W .w .since) q (W .w .now) r → a ≡ r
           by (yes x) (yes y) z = x ∙ sym y
-          by (yes x) (no y) z = absurd (let u : W .w .now ≡ W .w .since r = sym since-mine ∙ ap (upd (W .w .since) q (W .w .now)) (sym x) ∙ z ∙ since-other r y in let v : ⊥ = omega (arith, past-of r o₂ i₂ g₂ (sym (other r y) ∙ k)) in v)
-          by (no x) (yes y) z = absurd (let u : W .w .now ≡ W .w .since a = sym since-mine ∙ ap (upd (W .w .since) q (W .w .now)) (sym y) ∙ sym z ∙ since-other a x in let v : ⊥ = omega (arith, past-of a o₁ i₁ g₁ (sym (other a x) ∙ h)) in v)
+          by (yes x) (no y) z =
+              absurd
+              (let u : W .w .now ≡ W .w .since r = sym since-mine ∙ ap (upd (W .w .since) q (W .w .now)) (sym x) ∙ z ∙ since-other r y in
+              let v : ⊥ = omega (arith, past-of r o₂ i₂ g₂ (sym (other r y) ∙ k)) in
+              v)
+          by (no x) (yes y) z =
+              absurd
+              (let u : W .w .now ≡ W .w .since a = sym since-mine ∙ ap (upd (W .w .since) q (W .w .now)) (sym y) ∙ sym z ∙ since-other a x in
+              let v : ⊥ = omega (arith, past-of a o₁ i₁ g₁ (sym (other a x) ∙ h)) in
+              v)
           by (no x) (no y) z = I .apart a r o₁ o₂ i₁ i₂ g₁ g₂ (sym (other a x) ∙ h) (sym (other r y) ∙ k) (sym (since-other a x) ∙ z ∙ since-other r y)
 
       sound′ : (z : Entry) → List·Memᴰ z (W .log) → ((d : Done) × List·Memᴰ d (W .w .ended) × Is z d) ⊎ Under G oldLink opening z
       sound′ z m = ⊎-elim (λ (h : (d : Done) × List·Memᴰ d (W .w .ended) × Is z d). inl h)
-          (λ (u : Under G oldLink W z). let ne = not-me (z .who) (z .op) (z .cell) (u .stage) (u .lane) in inr (record { stage = u .stage; lane = other (z .who) ne ∙ u .lane; since = since-other (z .who) ne ∙ u .since }))
+          (λ (u : Under G oldLink W z). let ne = not-me (z .who) (z .op) (z .cell) (u .stage) (u .lane) in inr
+          (record { stage = u .stage; lane = other (z .who) ne ∙ u .lane; since = since-other (z .who) ne ∙ u .since }))
           (I .logs .sound z m)
 
-      over′ : (d : Done) → List·Memᴰ d (W .w .ended) → (r : ℕ) (o₁ : Op) (i₁ : ℕ) (g₁ : Stage) → upd (W .w .lane) q l r ≡ busy o₁ i₁ g₁ → d .began ≢ upd (W .w .since) q (W .w .now) r
+      over′ : (d : Done) → List·Memᴰ d (W .w .ended) → (r : ℕ) (o₁ : Op) (i₁ : ℕ) (g₁ : Stage) → upd (W .w .lane) q l r ≡ busy o₁ i₁ g₁
+          → d .began ≢ upd (W .w .since) q (W .w .now) r
       over′ d m r o₁ i₁ g₁ k = by (ℕ-discrete r q)
         where
           c : (z : Entry) × List·Memᴰ z (W .log) × Is z d
           c = I .logs .complete d m
 
           by : Dec (r ≡ q) → d .began ≢ upd (W .w .since) q (W .w .now) r
-          by (yes h) = rw h (rw since-mine (λ y. let v : ⊥ = omega (arith, began-before (G .f) (W .log) (I .logs .orderly) (c .0) (c .1), I .logs .early (c .0) (c .1), c .2 .began) in v))
+          by (yes h) =
+              rw h
+              (rw since-mine
+              (λ y. let v : ⊥ = omega (arith, began-before (G .f) (W .log) (I .logs .orderly) (c .0) (c .1), I .logs .early (c .0) (c .1), c .2 .began) in v))
           by (no h) = rw (since-other r h) (I .logs .over d m r o₁ i₁ g₁ (sym (other r h) ∙ k))
 
-pub opened-inv : (G : Grid) (readings : ℕ → ℕ) (links : ℕ → Link) (marks : ℕ → ℕ → ℕ) → Inv G links (record { w = opened readings links marks; log = []; used = λ q. 0 })
+pub opened-inv : (G : Grid) (readings : ℕ → ℕ) (links : ℕ → Link) (marks : ℕ → ℕ → ℕ)
+    → Inv G links (record { w = opened readings links marks; log = []; used = λ q. 0 })
 unfolding opened written deeds
 opened-inv G readings links marks = record {
   lanes = λ q. tt;

@@ -3,28 +3,30 @@
 use mathlib.Core.Path.{_≡_}
 use Prim.Native.Nat.{ℕ}
 use Rattle.theory.specs.Array.{Op}
-use Rattle.theory.specs.Machine.{Grid, Lawful, Link, Stage, busy, takeTurn}
-use Rattle.theory.specs.Standing.{usedNext}
+use Rattle.theory.specs.Machine.{Grid, Lawful, Link, Marking, Stage, marking, busy}
 use Rattle.theory.specs.World.{World}
 use Rattle.theory.specs.Inv.{Inv}
-use Rattle.theory.specs.Steps.{Kept}
+use Rattle.theory.specs.Steps.{KeptAt}
 use Rattle.theory.specs.Check.{check-link, check-marks, check-directory, check-mark, fetches}
-use Rattle.theory.specs.Draw.{draws, enters}
-use Rattle.theory.specs.Mark.{tombstones, marks-place, forces, takes-back}
+use Rattle.theory.specs.Mark.{draws, enters, tombstones, marks-place, forces, takes-back}
 use Rattle.theory.specs.Store.{stores}
 use Rattle.theory.specs.WriteSwap.{swaps}
 
-pub by-stage : {G : Grid} (A : Lawful G) {oldLink : ℕ → Link} {W : World} (I : Inv G oldLink W) (q : ℕ) (o : Op) (i : ℕ) (g : Stage) → W .w .lane q ≡ busy o i g → Kept G oldLink W q o i (takeTurn G (W .w .mem) q o i g) (usedNext (W .used) q g)
-by-stage A I q o i Stage.store e = stores I q o i e
-by-stage A I q o i Stage.checkLink e = check-link I q o i e
-by-stage A I q o i (Stage.checkMarks L) e = check-marks I q o i L e
-by-stage A I q o i (Stage.checkDirectory L) e = check-directory I q o i L e
-by-stage A I q o i (Stage.checkMark L) e = check-mark I q o i L e
-by-stage A I q o i Stage.fetch e = fetches I q o i e
-by-stage A I q o i (Stage.draw s L n) e = draws I q o i s L n e
-by-stage A I q o i (Stage.enter s L n) e = enters I q o i s L n e
-by-stage A I q o i (Stage.tombstone L n) e = tombstones A I q o i L n e
-by-stage A I q o i (Stage.mark L n) e = marks-place A I q o i L n e
-by-stage A I q o i (Stage.force L n) e = forces A I q o i L n e
-by-stage A I q o i (Stage.swap L n) e = swaps I q o i L n e
-by-stage A I q o i (Stage.takeBack n) e = takes-back A I q o i n e
+module _ {G : Grid} (A : Lawful G) {oldLink : ℕ → Link} {W : World} (I : Inv G oldLink W) (q : ℕ) (o : Op) (i : ℕ) where
+  by-marking : (k : Marking) → W .w .lane q ≡ busy o i (marking k) → KeptAt G oldLink W q o i (marking k)
+  by-marking (Marking.draw s S n) e = draws I q o i s S n e
+  by-marking (Marking.enter s S n) e = enters I q o i s S n e
+  by-marking (Marking.tombstone S n) e = tombstones I q o i A S n e
+  by-marking (Marking.mark S n) e = marks-place I q o i A S n e
+  by-marking (Marking.force S n) e = forces I q o i S n e
+  by-marking (Marking.swap S n) e = swaps I q o i S n e
+  by-marking (Marking.takeBack n) e = takes-back I q o i n e
+
+  pub by-stage : (g : Stage) → W .w .lane q ≡ busy o i g → KeptAt G oldLink W q o i g
+  by-stage Stage.store e = stores I q o i e
+  by-stage Stage.checkLink e = check-link I q o i e
+  by-stage (Stage.checkMarks S) e = check-marks I q o i S e
+  by-stage (Stage.checkDirectory S) e = check-directory I q o i S e
+  by-stage (Stage.checkMark S) e = check-mark I q o i S e
+  by-stage Stage.fetch e = fetches I q o i e
+  by-stage (marking k) e = by-marking k e

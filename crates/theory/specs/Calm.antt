@@ -9,10 +9,9 @@ use native.Mathlib.Decide.{ℕ-discrete}
 use native.Mathlib.Omega.{arith}
 use Rattle.theory.specs.Base.{upd, upd-same, upd-other}
 use Rattle.theory.specs.Array.{Op}
-use Rattle.theory.specs.Order.{Entry}
+use Rattle.theory.specs.Order.{Entry, valueIn, writtenIn}
 use Rattle.theory.specs.Machine.{Grid, Link, mk, Stage, busy, Mem, Next, nextLane}
 use Rattle.theory.specs.Standing.{After, settledAt, settled}
-use Rattle.theory.specs.OrderLaws.{valueIn, writtenIn}
 use Rattle.theory.specs.World.{World, Swapped, Unplaced}
 use Rattle.theory.specs.Claims.{Stored, Wrote}
 use Rattle.theory.specs.Inv.{LaneOk, CellOk, old, new, LogOk, Inv}
@@ -20,7 +19,8 @@ use Rattle.theory.specs.Log.{turned}
 use Rattle.theory.specs.ClaimsKept.{NotStored, Frame}
 use Rattle.theory.specs.Frame.{lane-frame}
 
-module _ {G : Grid} {oldLink : ℕ → Link} {W : World} (I : Inv G oldLink W) (q : ℕ) {o : Op} {i : ℕ} {g : Stage} (e : W .w .lane q ≡ busy o i g) (M : Mem) (used : ℕ → ℕ) (nx : Next) where
+module _ {G : Grid} {oldLink : ℕ → Link} {W : World} (I : Inv G oldLink W) (q : ℕ) {o : Op} {i : ℕ} {g : Stage} (e : W .w .lane q ≡ busy o i g)
+    (M : Mem) (used : ℕ → ℕ) (nx : Next) where
   -- what the step does to its own lane's numbers and marks
   pub record Own : Type 0 where
     pub inForce : (r : ℕ) → r ≢ q → M .inForce r ≡ W .w .mem .inForce r
@@ -78,14 +78,16 @@ module _ {G : Grid} {oldLink : ℕ → Link} {W : World} (I : Inv G oldLink W) (
         by (no k) = rw (O .usedOther r k) (omega arith)
 
     -- a lane that is busy after the step was busy before it
-    was : (r : ℕ) (o₁ : Op) (i₁ : ℕ) (g₁ : Stage) → upd (W .w .lane) q (nextLane o i nx) r ≡ busy o₁ i₁ g₁ → (o₂ : Op) × (i₂ : ℕ) × (g₂ : Stage) × (W .w .lane r ≡ busy o₂ i₂ g₂)
+    was : (r : ℕ) (o₁ : Op) (i₁ : ℕ) (g₁ : Stage) → upd (W .w .lane) q (nextLane o i nx) r ≡ busy o₁ i₁ g₁
+        → (o₂ : Op) × (i₂ : ℕ) × (g₂ : Stage) × (W .w .lane r ≡ busy o₂ i₂ g₂)
     was r o₁ i₁ g₁ k = by (ℕ-discrete r q)
       where
         by : Dec (r ≡ q) → (o₂ : Op) × (i₂ : ℕ) × (g₂ : Stage) × (W .w .lane r ≡ busy o₂ i₂ g₂)
         by (yes h) = (o, i, g, rw h e)
         by (no h) = (o₁, i₁, g₁, sym (other r h) ∙ k)
 
-    pub complete-inv : Frame G oldLink q W W′ → LaneOk G oldLink W′ q (nextLane o i nx) → ((j : ℕ) → j < G .m → CellOk G oldLink W′ j) → LogOk G oldLink W′ → Inv G oldLink W′
+    pub complete-inv : Frame G oldLink q W W′ → LaneOk G oldLink W′ q (nextLane o i nx) → ((j : ℕ) → j < G .m → CellOk G oldLink W′ j)
+        → LogOk G oldLink W′ → Inv G oldLink W′
     complete-inv F l c lg = record { lanes = lanes′; cells = c; counts = counts′; places = places′; apart = apart′; logs = lg }
       where
         lanes′ : (r : ℕ) → LaneOk G oldLink W′ r (upd (W .w .lane) q (nextLane o i nx) r)
@@ -95,8 +97,10 @@ module _ {G : Grid} {oldLink : ℕ → Link} {W : World} (I : Inv G oldLink W) (
             by (yes k) = rw k (rw mine l)
             by (no k) = lane-frame F r k (I .lanes r)
 
-        apart′ : (a r : ℕ) (o₁ o₂ : Op) (i₁ i₂ : ℕ) (g₁ g₂ : Stage) → W′ .w .lane a ≡ busy o₁ i₁ g₁ → W′ .w .lane r ≡ busy o₂ i₂ g₂ → W .w .since a ≡ W .w .since r → a ≡ r
-        apart′ a r o₁ o₂ i₁ i₂ g₁ g₂ h k z = let x = was a o₁ i₁ g₁ h in let y = was r o₂ i₂ g₂ k in I .apart a r (x .0) (y .0) (x .1) (y .1) (x .2) (y .2) (x .3) (y .3) z
+        apart′ : (a r : ℕ) (o₁ o₂ : Op) (i₁ i₂ : ℕ) (g₁ g₂ : Stage) → W′ .w .lane a ≡ busy o₁ i₁ g₁ → W′ .w .lane r ≡ busy o₂ i₂ g₂
+            → W .w .since a ≡ W .w .since r → a ≡ r
+        apart′ a r o₁ o₂ i₁ i₂ g₁ g₂ h k z = let x = was a o₁ i₁ g₁ h in
+            let y = was r o₂ i₂ g₂ k in I .apart a r (x .0) (y .0) (x .1) (y .1) (x .2) (y .2) (x .3) (y .3) z
 
     -- the order is as it was, or longer by an entry of q's; swapped links and written cells stay
     pub record Quiet : Type 0 where
@@ -121,13 +125,22 @@ module _ {G : Grid} {oldLink : ℕ → Link} {W : World} (I : Inv G oldLink W) (
     }
       where
         un : (r : ℕ) (o₁ : Op) (i₁ : ℕ) (g₁ : Stage) → r ≢ q → W .w .lane r ≡ busy o₁ i₁ g₁ → Unplaced G oldLink W r → Unplaced G oldLink W′ r
-        un r o₁ i₁ g₁ ne k u z m b = ⊎-elim (λ (h : List·Memᴰ z (W .log)). u z h b) (λ (h : z .began ≡ W .w .since q). ne (I .apart r q o₁ o i₁ i g₁ g k e (sym b ∙ h))) (Q .less z m)
+        un r o₁ i₁ g₁ ne k u z m b =
+            ⊎-elim (λ (h : List·Memᴰ z (W .log)). u z h b) (λ (h : z .began ≡ W .w .since q). ne (I .apart r q o₁ o i₁ i g₁ g k e (sym b ∙ h)))
+            (Q .less z m)
 
-        fresh′ : (r : ℕ) (o₁ : Op) (i₁ : ℕ) (g₁ : Stage) → r ≢ q → W .w .lane r ≡ busy o₁ i₁ g₁ → NotStored (busy o₁ i₁ g₁) → Unplaced G oldLink W r → Unplaced G oldLink W′ r
+        fresh′ : (r : ℕ) (o₁ : Op) (i₁ : ℕ) (g₁ : Stage) → r ≢ q → W .w .lane r ≡ busy o₁ i₁ g₁ → NotStored (busy o₁ i₁ g₁) → Unplaced G oldLink W r
+            → Unplaced G oldLink W′ r
         fresh′ r o₁ i₁ g₁ ne k n u = un r o₁ i₁ g₁ ne k u
 
-        wrote′ : (r : ℕ) (o₁ : Op) (i₁ : ℕ) (g₁ : Stage) → r ≢ q → W .w .lane r ≡ busy o₁ i₁ g₁ → After g₁ → Wrote G oldLink W r o₁ i₁ → Wrote G oldLink W′ r o₁ i₁
-        wrote′ r o₁ i₁ g₁ ne k a h = record { v = h .v; is = h .is; new = λ t. let x = h .new (sym (Q .same i₁) ∙ t) in (x .0, Q .more _ (x .1)); old = λ t. un r o₁ i₁ g₁ ne k (h .old (sym (Q .same i₁) ∙ t)) }
+        wrote′ : (r : ℕ) (o₁ : Op) (i₁ : ℕ) (g₁ : Stage) → r ≢ q → W .w .lane r ≡ busy o₁ i₁ g₁ → After g₁ → Wrote G oldLink W r o₁ i₁
+            → Wrote G oldLink W′ r o₁ i₁
+        wrote′ r o₁ i₁ g₁ ne k a h = record {
+          v = h .v;
+          is = h .is;
+          new = λ t. let x = h .new (sym (Q .same i₁) ∙ t) in (x .0, Q .more _ (x .1));
+          old = λ t. un r o₁ i₁ g₁ ne k (h .old (sym (Q .same i₁) ∙ t));
+        }
 
     -- cell j's words and the array there stay, and who has stored
     pub record Still (j : ℕ) : Type 0 where
@@ -139,9 +152,12 @@ module _ {G : Grid} {oldLink : ℕ → Link} {W : World} (I : Inv G oldLink W) (
       pub from : (v : ℕ) → Stored (nextLane o i nx) j v → Stored (busy o i g) j v
 
     -- a cell with a swapped link keeps its certificate
-    pub certified : (j : ℕ) → M .link j ≡ W .w .mem .link j → writtenIn log j ≡ true → valueIn (G .f) log j ≡ M .reading j → CellOk G oldLink W j → Swapped G oldLink W j → CellOk G oldLink W′ j
+    pub certified : (j : ℕ) → M .link j ≡ W .w .mem .link j → writtenIn log j ≡ true → valueIn (G .f) log j ≡ M .reading j → CellOk G oldLink W j
+        → Swapped G oldLink W j → CellOk G oldLink W′ j
     certified j l t v (old t₀ k s) t₁ = absurd (t₁ k)
-    certified j l t v (new t₀ y x p₀ p₁ p₂) t₁ = new (rw l t₁) t v (rw l p₀) (rw l (omega (arith, p₁, rises (W .w .mem .link j .proc)))) (rw l (keeps (W .w .mem .link j .proc) (W .w .mem .link j .place) p₁ ∙ p₂))
+    certified j l t v (new t₀ y x p₀ p₁ p₂) t₁ =
+        new (rw l t₁) t v (rw l p₀) (rw l (omega (arith, p₁, rises (W .w .mem .link j .proc))))
+        (rw l (keeps (W .w .mem .link j .proc) (W .w .mem .link j .place) p₁ ∙ p₂))
 
     pub still-cell : (j : ℕ) → Still j → j < G .m → CellOk G oldLink W′ j
     still-cell j S hj = by (I .cells j hj)
@@ -161,5 +177,7 @@ module _ {G : Grid} {oldLink : ℕ → Link} {W : World} (I : Inv G oldLink W) (
             go′ (no k) = rw (other r k) at s
 
         by : CellOk G oldLink W j → CellOk G oldLink W′ j
-        by (old t k s) = old (S .same ∙ t) (S .link ∙ k) (λ r v h. let x = s r v (fro r v h) in (x .0, rw (S .reading) (to (x .0) (W .w .mem .reading j) (k) (x .1))))
+        by (old t k s) =
+            old (S .same ∙ t) (S .link ∙ k)
+            (λ r v h. let x = s r v (fro r v h) in (x .0, rw (S .reading) (to (x .0) (W .w .mem .reading j) (k) (x .1))))
         by (new t y v p₀ p₁ p₂) = certified j (S .link) (S .same ∙ y) (S .vals ∙ v ∙ sym (S .reading)) (new t y v p₀ p₁ p₂) t

@@ -3,11 +3,10 @@
 use mathlib.Core.Path.{_≡_}
 use mathlib.Core.Bool.{true, false}
 use Prim.Native.Nat.{ℕ}
-use Rattle.theory.specs.Array.{Op, read, asked, write, got, told, done}
+use Rattle.theory.specs.Array.{Op, read, asked, write, got, told, done, Writing}
 use Rattle.theory.specs.Machine.{Grid, Link, Lane, idle, busy}
-use Rattle.theory.specs.Run.{Writing}
 use Rattle.theory.specs.Standing.{After}
-use Rattle.theory.specs.OrderLaws.{writtenIn}
+use Rattle.theory.specs.Order.{writtenIn}
 use Rattle.theory.specs.World.{World, Placed, Unplaced}
 
 -- the operation is a write of v

@@ -27,7 +27,8 @@ module _ (G : Grid) (oldLink : ℕ → Link) where
     pub now : W .w .now ≤ W′ .w .now
     pub link : (i : ℕ) → Swapped G oldLink W i → W′ .w .mem .link i ≡ W .w .mem .link i
     pub more : (e : Entry) → List·Memᴰ e (W .log) → List·Memᴰ e (W′ .log)
-    pub fresh : (r : ℕ) (o : Op) (i : ℕ) (g : Stage) → r ≢ q → W .w .lane r ≡ busy o i g → NotStored (busy o i g) → Unplaced G oldLink W r → Unplaced G oldLink W′ r
+    pub fresh : (r : ℕ) (o : Op) (i : ℕ) (g : Stage) → r ≢ q → W .w .lane r ≡ busy o i g → NotStored (busy o i g) → Unplaced G oldLink W r
+        → Unplaced G oldLink W′ r
     pub wrote : (r : ℕ) (o : Op) (i : ℕ) (g : Stage) → r ≢ q → W .w .lane r ≡ busy o i g → After g → Wrote G oldLink W r o i → Wrote G oldLink W′ r o i
 
 module _ {G : Grid} {oldLink : ℕ → Link} {q : ℕ} {W W′ : World} (F : Frame G oldLink q W W′) (r : ℕ) (ne : r ≢ q) where

@@ -21,7 +21,9 @@ module _ {G : Grid} {oldLink : ℕ → Link} {T : Tally} {w : Watch} (A : Accoun
 
   lane-words : (q : ℕ) → handed (w .mem .drawn q) ≤ 2 * size q + 2 * T .procs q
   unfolding size
-  lane-words q = ⊎-elim (λ (h : 2 ^ w .mem .drawn q ≤ A .draws q .n + 1). omega arith) (λ (h : (2 ^ w .mem .drawn q ≤ A .draws q .n + 2) × (T .procs q ≡ 1)). omega (arith, h .0, h .1)) (A .draws q .small)
+  lane-words q =
+      ⊎-elim (λ (h : 2 ^ w .mem .drawn q ≤ A .draws q .n + 1). omega arith)
+      (λ (h : (2 ^ w .mem .drawn q ≤ A .draws q .n + 2) × (T .procs q ≡ 1)). omega (arith, h .0, h .1)) (A .draws q .small)
 
   lane-owed : (q k : ℕ) → k < size q → Owed G oldLink T (w .mem) q k
   unfolding size
@@ -57,8 +59,11 @@ module _ {G : Grid} {oldLink : ℕ → Link} {T : Tally} {w : Watch} (A : Accoun
 
   -- a link names one place
   hits : (L : Link) (p : ℕ) (n : ℕ → ℕ) → sum (λ q. sum (λ k. hit L q k) (n q)) p ≤ 1
-  hits L p n = sum-single (λ q. sum (λ k. hit L q k) (n q)) p (L .proc) 1 (λ q ne. sum-zero (λ k. hit L q k) (n q) (λ k hk. hit-no L q k (λ z. ne (sym (ap (λ (y : Link). y .proc) z)))))
-      (sum-single (λ k. hit L (L .proc) k) (n (L .proc)) (L .place) 1 (λ k ne. hit-no L (L .proc) k (λ z. ne (sym (ap (λ (y : Link). y .place) z)))) (hit-le L (L .proc) (L .place)))
+  hits L p n =
+      sum-single (λ q. sum (λ k. hit L q k) (n q)) p (L .proc) 1
+      (λ q ne. sum-zero (λ k. hit L q k) (n q) (λ k hk. hit-no L q k (λ z. ne (sym (ap (λ (y : Link). y .proc) z)))))
+      (sum-single (λ k. hit L (L .proc) k) (n (L .proc)) (L .place) 1 (λ k ne. hit-no L (L .proc) k (λ z. ne (sym (ap (λ (y : Link). y .place) z))))
+      (hit-le L (L .proc) (L .place)))
 
   -- cell i is owed place k of lane q: 0, 1 or 2 ways, and none if no write of it has begun
   ways : ℕ → ℕ → ℕ → ℕ
@@ -83,7 +88,8 @@ module _ {G : Grid} {oldLink : ℕ → Link} {T : Tally} {w : Watch} (A : Accoun
   covered-by : (q k : ℕ) → Owed G oldLink T (w .mem) q k → 1 ≤ sum (ways q k) (G .m)
   covered-by q k h = omega (arith, sum-term (ways q k) (G .m) (h .i) (h .cell), ways-begun q k (h .i) (h .begun), one (h .which))
     where
-      one : ((w .mem .link (h .i) ≡ mk q k) × (oldLink (h .i) ≢ mk q k)) ⊎ (oldLink (h .i) ≡ mk q k) → 1 ≤ hit (w .mem .link (h .i)) q k + hit (oldLink (h .i)) q k
+      one : ((w .mem .link (h .i) ≡ mk q k) × (oldLink (h .i) ≢ mk q k)) ⊎ (oldLink (h .i) ≡ mk q k)
+          → 1 ≤ hit (w .mem .link (h .i)) q k + hit (oldLink (h .i)) q k
       one (inl z) = omega (arith, hit-yes (w .mem .link (h .i)) q k (z .0))
       one (inr z) = omega (arith, hit-yes (oldLink (h .i)) q k z)
 
@@ -93,7 +99,9 @@ module _ {G : Grid} {oldLink : ℕ → Link} {T : Tally} {w : Watch} (A : Accoun
   once : (i : ℕ) → i < G .m → sum (λ q. sum (λ k. ways q k i) (size q)) (G .p) ≤ 2 * T .cells i
   once i hi = by (ℕ-discrete (T .cells i) 1)
     where
-      split : T .cells i ≡ 1 → sum (λ q. sum (λ k. ways q k i) (size q)) (G .p) ≡ sum (λ q. sum (λ k. hit (w .mem .link i) q k) (size q)) (G .p) + sum (λ q. sum (λ k. hit (oldLink i) q k) (size q)) (G .p)
+      split : T .cells i ≡ 1
+          → sum (λ q. sum (λ k. ways q k i) (size q)) (G .p)
+          ≡ sum (λ q. sum (λ k. hit (w .mem .link i) q k) (size q)) (G .p) + sum (λ q. sum (λ k. hit (oldLink i) q k) (size q)) (G .p)
       split z = simp (open-ways, sum-add)
         where
           open-ways : (q k : ℕ) → ways q k i ≡ hit (w .mem .link i) q k + hit (oldLink i) q k
@@ -121,7 +129,13 @@ module _ {G : Grid} {oldLink : ℕ → Link} {T : Tally} {w : Watch} (A : Accoun
 
   pub owed-bound : (q n : ℕ) → ((k : ℕ) → k < n → Owed G oldLink T (w .mem) q k) → n ≤ 2 * sum (T .cells) (G .m)
   unfolding sum
-  owed-bound q n owed = omega (arith, double-count 1 (G .m) (λ r. n) (λ r k i. ways q k i) (λ i. 2 * T .cells i) (λ r k hr hk. covered-by q k (owed k hk)) (λ i hi. by i (ℕ-discrete (T .cells i) 1)), sum-double (T .cells) (G .m))
+  owed-bound q n owed =
+      omega (
+        arith,
+        double-count 1 (G .m) (λ r. n) (λ r k i. ways q k i) (λ i. 2 * T .cells i) (λ r k hr hk. covered-by q k (owed k hk))
+            (λ i hi. by i (ℕ-discrete (T .cells i) 1)),
+        sum-double (T .cells) (G .m),
+      )
     where
       by : (i : ℕ) → Dec (T .cells i ≡ 1) → 0 + sum (λ k. ways q k i) n ≤ 2 * T .cells i
       by i (yes z) = omega (arith, split, hits-one (w .mem .link i) q n, hits-one (oldLink i) q n)

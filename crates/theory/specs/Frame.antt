@@ -5,11 +5,11 @@ use mathlib.Core.Logic.{_≢_}
 use Prim.Native.Nat.{ℕ, _<_}
 use native.Mathlib.Omega.{arith}
 use Rattle.theory.specs.Array.{Op}
-use Rattle.theory.specs.Machine.{Grid, Link, Stage, Lane, idle, busy}
+use Rattle.theory.specs.Machine.{Grid, Link, Seen, Marking, Stage, marking, Lane, idle, busy}
 use Rattle.theory.specs.Standing.{After}
 use Rattle.theory.specs.World.{World, Swapped}
 use Rattle.theory.specs.Claims.{Writes}
-use Rattle.theory.specs.Inv.{Judged, sure, dud, Making, Marked, StageOk, LaneOk}
+use Rattle.theory.specs.Inv.{Judged, sure, dud, Making, Marked, MarkingOk, StageOk, LaneOk}
 use Rattle.theory.specs.ClaimsKept.{NotStored, Frame, fresh-frame, sure-frame, dud-frame, mine-frame}
 
 module _ {G : Grid} {oldLink : ℕ → Link} {q : ℕ} {W W′ : World} (F : Frame G oldLink q W W′) (r : ℕ) (ne : r ≢ q) where
@@ -17,38 +17,43 @@ module _ {G : Grid} {oldLink : ℕ → Link} {q : ℕ} {W W′ : World} (F : Fra
   swapped-frame : (i : ℕ) → Swapped G oldLink W i → Swapped G oldLink W′ i
   swapped-frame i t = rw (F .link i t) t
 
-  judged-frame : (o : Op) (i : ℕ) (g : Stage) (L : Link) → After g → W .w .lane r ≡ busy o i g → Judged G oldLink W r o i L → Judged G oldLink W′ r o i L
-  judged-frame o i g L a e (sure t k s) = sure (swapped-frame i t) (F .link i t ∙ k) (sure-frame F r ne o i g a e s)
-  judged-frame o i g L a e (dud k s) = dud k (dud-frame F r ne o i g a e s)
+  judged-frame : (o : Op) (i : ℕ) (g : Stage) (S : Seen) → After g → W .w .lane r ≡ busy o i g → Judged G oldLink W r o i S → Judged G oldLink W′ r o i S
+  judged-frame o i g S a e (sure t k s) = sure (swapped-frame i t) (F .link i t ∙ k) (sure-frame F r ne o i g a e s)
+  judged-frame o i g S a e (dud k s) = dud k (dud-frame F r ne o i g a e s)
 
-  making-frame : (o : Op) (i : ℕ) (g : Stage) (L : Link) (n : ℕ) → After g → W .w .lane r ≡ busy o i g → Making G oldLink W r o i L n → Making G oldLink W′ r o i L n
-  making-frame o i g L n a e h = record { wrote = mine-frame F r ne o i g a e (h .wrote); bad = h .bad; low = rw (F .inForce r ne) (h .low); high = rw (F .used r ne) (h .high) }
+  making-frame : (i : ℕ) (S : Seen) (n : ℕ) → Making G oldLink (W .w .mem) (W .used) r i S n → Making G oldLink (W′ .w .mem) (W′ .used) r i S n
+  making-frame i S n h = record { bad = h .bad; low = rw (F .inForce r ne) (h .low); high = rw (F .used r ne) (h .high) }
 
-  marked-frame : (o : Op) (i : ℕ) (g : Stage) (L : Link) (n : ℕ) → After g → W .w .lane r ≡ busy o i g → Marked G oldLink W r o i L n → Marked G oldLink W′ r o i L n
-  marked-frame o i g L n a e h = record { wrote = mine-frame F r ne o i g a e (h .wrote); bad = h .bad; high = rw (F .used r ne) (h .high); there = F .marks r n ne ∙ h .there }
+  marked-frame : (i : ℕ) (S : Seen) (n : ℕ) → Marked G oldLink (W .w .mem) (W .used) r i S n → Marked G oldLink (W′ .w .mem) (W′ .used) r i S n
+  marked-frame i S n h = record { bad = h .bad; high = rw (F .used r ne) (h .high); there = F .marks r n ne ∙ h .there }
 
-  upto : (L : Link) → L .place < W .used (L .proc) → L .place < W′ .used (L .proc)
-  upto L h = omega (arith, F .up (L .proc))
+  marking-frame : (i : ℕ) (k : Marking) → MarkingOk G oldLink (W .w .mem) (W .used) r i k → MarkingOk G oldLink (W′ .w .mem) (W′ .used) r i k
+  marking-frame i (Marking.draw s S n) h = (making-frame i S n (h .0), h .1)
+  marking-frame i (Marking.enter s S n) h = (making-frame i S n (h .0), h .1)
+  marking-frame i (Marking.tombstone S n) h = (making-frame i S n (h .0), h .1)
+  marking-frame i (Marking.mark S n) h = (making-frame i S n (h .0), h .1)
+  marking-frame i (Marking.force S n) h = (marked-frame i S n (h .0), rw (F .inForce r ne) (h .1))
+  marking-frame i (Marking.swap S n) h = (marked-frame i S n (h .0), F .inForce r ne ∙ h .1)
+  marking-frame i (Marking.takeBack n) h = (swapped-frame i (h .0), F .inForce r ne ∙ h .1)
+
+  upto : (S : Seen) → S .at .place < W .used (S .at .proc) → S .at .place < W′ .used (S .at .proc)
+  upto S h = omega (arith, F .up (S .at .proc))
 
   stage-frame : (o : Op) (i : ℕ) (g : Stage) → W .w .lane r ≡ busy o i g → StageOk G oldLink W r o i g → StageOk G oldLink W′ r o i g
   unfolding NotStored
   stage-frame o i Stage.store e h = (F .fresh r o i Stage.store ne e (λ j v s. s .2) (h .0), h .1)
   stage-frame o i Stage.checkLink e h = fresh-frame F r ne o i e h
-  stage-frame o i (Stage.checkMarks L) e h = (judged-frame o i (Stage.checkMarks L) L tt e (h .0), h .1)
-  stage-frame o i (Stage.checkDirectory L) e h = (judged-frame o i (Stage.checkDirectory L) L tt e (h .0), h .1, upto L (h .2))
-  stage-frame o i (Stage.checkMark L) e h = (judged-frame o i (Stage.checkMark L) L tt e (h .0), h .1, upto L (h .2))
-  stage-frame o i Stage.fetch e h = (h .0, swapped-frame i (h .1), F .fresh r o i Stage.fetch ne e (λ j v s. subst (λ x. Writes x v) (h .0) (s .0)) (h .2))
-  stage-frame o i (Stage.draw s L n) e h = (making-frame o i (Stage.draw s L n) L n tt e (h .0), h .1)
-  stage-frame o i (Stage.enter s L n) e h = (making-frame o i (Stage.enter s L n) L n tt e (h .0), h .1)
-  stage-frame o i (Stage.tombstone L n) e h = (making-frame o i (Stage.tombstone L n) L n tt e (h .0), h .1)
-  stage-frame o i (Stage.mark L n) e h = (making-frame o i (Stage.mark L n) L n tt e (h .0), h .1)
-  stage-frame o i (Stage.force L n) e h = (marked-frame o i (Stage.force L n) L n tt e (h .0), rw (F .inForce r ne) (h .1))
-  stage-frame o i (Stage.swap L n) e h = (marked-frame o i (Stage.swap L n) L n tt e (h .0), F .inForce r ne ∙ h .1)
-  stage-frame o i (Stage.takeBack n) e h = (mine-frame F r ne o i (Stage.takeBack n) tt e (h .0), swapped-frame i (h .1), F .inForce r ne ∙ h .2)
+  stage-frame o i (Stage.checkMarks S) e h = (judged-frame o i (Stage.checkMarks S) S tt e (h .0), h .1)
+  stage-frame o i (Stage.checkDirectory S) e h = (judged-frame o i (Stage.checkDirectory S) S tt e (h .0), h .1, upto S (h .2))
+  stage-frame o i (Stage.checkMark S) e h = (judged-frame o i (Stage.checkMark S) S tt e (h .0), h .1, upto S (h .2))
+  stage-frame o i Stage.fetch e h =
+      (h .0, swapped-frame i (h .1), F .fresh r o i Stage.fetch ne e (λ j v s. subst (λ x. Writes x v) (h .0) (s .0)) (h .2))
+  stage-frame o i (marking k) e h = (mine-frame F r ne o i (marking k) tt e (h .0), marking-frame i k (h .1))
 
   lane-go : (l : Lane) → W .w .lane r ≡ l → LaneOk G oldLink W r l → LaneOk G oldLink W′ r l
   lane-go idle e h = tt
-  lane-go (busy o i g) e h = record { proc = h .proc; cell = h .cell; past = rw (F .since r o i g ne e) (omega (arith, h .past, F .now)); at = stage-frame o i g e (h .at) }
+  lane-go (busy o i g) e h =
+      record { proc = h .proc; cell = h .cell; past = rw (F .since r o i g ne e) (omega (arith, h .past, F .now)); at = stage-frame o i g e (h .at) }
 
   pub lane-frame : LaneOk G oldLink W r (W .w .lane r) → LaneOk G oldLink W′ r (W′ .w .lane r)
   lane-frame h = rw (F .lane r ne) (lane-go (W .w .lane r) refl h)

@@ -6,53 +6,55 @@ use mathlib.Core.Bool.{Bool, true, false}
 use mathlib.Core.List.{List·Memᴰ}
 use Prim.Native.Nat.{ℕ, suc, _≤_, _<_}
 use Rattle.theory.specs.Array.{Op, read}
-use Rattle.theory.specs.Order.{Done, Entry, Orderly, Is}
-use Rattle.theory.specs.Machine.{Grid, Link, mk, Stage, Lane, idle, busy}
+use Rattle.theory.specs.Order.{Done, Entry, Orderly, Is, valueIn, writtenIn}
+use Rattle.theory.specs.Machine.{Grid, Link, mk, Seen, Marking, Stage, marking, Lane, idle, busy, Mem}
 use Rattle.theory.specs.Standing.{settled}
-use Rattle.theory.specs.OrderLaws.{valueIn, writtenIn}
 use Rattle.theory.specs.World.{World, Swapped, Unplaced}
 use Rattle.theory.specs.Claims.{Writes, Stored, Fresh, Sure, Dud, Mine}
 
 -- once the tombstone is stored, the place is not the remembered link's
-abbrev pub Clear : Bool → ℕ → Link → ℕ → Type 0
-Clear true q L n = L ≢ mk q n
-Clear false q L n = Unit {0}
+abbrev pub Clear : Bool → ℕ → Seen → ℕ → Type 0
+Clear true q S n = S .at ≢ mk q n
+Clear false q S n = Unit {0}
+
+-- what holds of process q's lane while it marks cell i, with these words and used places
+module _ (G : Grid) (oldLink : ℕ → Link) (M : Mem) (used : ℕ → ℕ) where
+  -- the remembered link is the old one: before place n's mark is stored, and after
+  pub record Making (q i : ℕ) (S : Seen) (n : ℕ) : Type 0 where
+    pub bad : S .at ≡ oldLink i
+    pub low : M .inForce q ≤ n
+    pub high : n ≤ used q
+
+  pub record Marked (q i : ℕ) (S : Seen) (n : ℕ) : Type 0 where
+    pub bad : S .at ≡ oldLink i
+    pub high : n < used q
+    pub there : M .marks q n ≡ G .code i
+
+  abbrev pub MarkingOk : ℕ → ℕ → Marking → Type 0
+  MarkingOk q i (Marking.draw s S n) = Making q i S n × Clear s q S n
+  MarkingOk q i (Marking.enter s S n) = Making q i S n × Clear s q S n
+  MarkingOk q i (Marking.tombstone S n) = Making q i S n × (S .at ≡ mk q n)
+  MarkingOk q i (Marking.mark S n) = Making q i S n × (S .at ≢ mk q n)
+  MarkingOk q i (Marking.force S n) = Marked q i S n × (M .inForce q ≤ n)
+  MarkingOk q i (Marking.swap S n) = Marked q i S n × (M .inForce q ≡ suc n)
+  MarkingOk q i (Marking.takeBack n) = (M .link i ≢ oldLink i) × (M .inForce q ≡ suc n)
 
 module _ (G : Grid) (oldLink : ℕ → Link) (W : World) where
-  -- An operation in its check, which read the link L: L is the cell's swapped link, and the check will pass; or L is the
-  -- old link, and it will fail.
-  pub data Judged (q : ℕ) (o : Op) (i : ℕ) (L : Link) : Type 0 where
-    sure : Swapped G oldLink W i → W .w .mem .link i ≡ L → Sure G oldLink W q o i → Judged q o i L
-    dud : L ≡ oldLink i → Dud G oldLink W q o i → Judged q o i L
-
-  -- An operation past its failed check, whose remembered link L is the old one: before place n's mark is stored, and after.
-  pub record Making (q : ℕ) (o : Op) (i : ℕ) (L : Link) (n : ℕ) : Type 0 where
-    pub wrote : Mine G oldLink W q o i
-    pub bad : L ≡ oldLink i
-    pub low : W .w .mem .inForce q ≤ n
-    pub high : n ≤ W .used q
-
-  pub record Marked (q : ℕ) (o : Op) (i : ℕ) (L : Link) (n : ℕ) : Type 0 where
-    pub wrote : Mine G oldLink W q o i
-    pub bad : L ≡ oldLink i
-    pub high : n < W .used q
-    pub there : W .w .mem .marks q n ≡ G .code i
+  -- An operation in its check, by what (a) found: the cell's swapped link, and the check will pass; or the old link, and it
+  -- will fail.
+  pub data Judged (q : ℕ) (o : Op) (i : ℕ) (S : Seen) : Type 0 where
+    sure : Swapped G oldLink W i → W .w .mem .link i ≡ S .at → Sure G oldLink W q o i → Judged q o i S
+    dud : S .at ≡ oldLink i → Dud G oldLink W q o i → Judged q o i S
 
   -- what holds of process q's operation o on cell i at each stage
   abbrev pub StageOk : ℕ → Op → ℕ → Stage → Type 0
   StageOk q o i Stage.store = Unplaced G oldLink W q × ((v : ℕ) × Writes o v)
   StageOk q o i Stage.checkLink = Fresh G oldLink W q o i
-  StageOk q o i (Stage.checkMarks L) = Judged q o i L × (L .proc < G .p)
-  StageOk q o i (Stage.checkDirectory L) = Judged q o i L × (L .proc < G .p) × (L .place < W .used (L .proc))
-  StageOk q o i (Stage.checkMark L) = Judged q o i L × (L .proc < G .p) × (L .place < W .used (L .proc))
+  StageOk q o i (Stage.checkMarks S) = Judged q o i S × (S .at .proc < G .p)
+  StageOk q o i (Stage.checkDirectory S) = Judged q o i S × (S .at .proc < G .p) × (S .at .place < W .used (S .at .proc))
+  StageOk q o i (Stage.checkMark S) = Judged q o i S × (S .at .proc < G .p) × (S .at .place < W .used (S .at .proc))
   StageOk q o i Stage.fetch = (o ≡ read) × Swapped G oldLink W i × Unplaced G oldLink W q
-  StageOk q o i (Stage.draw s L n) = Making q o i L n × Clear s q L n
-  StageOk q o i (Stage.enter s L n) = Making q o i L n × Clear s q L n
-  StageOk q o i (Stage.tombstone L n) = Making q o i L n × (L ≡ mk q n)
-  StageOk q o i (Stage.mark L n) = Making q o i L n × (L ≢ mk q n)
-  StageOk q o i (Stage.force L n) = Marked q o i L n × (W .w .mem .inForce q ≤ n)
-  StageOk q o i (Stage.swap L n) = Marked q o i L n × (W .w .mem .inForce q ≡ suc n)
-  StageOk q o i (Stage.takeBack n) = Mine G oldLink W q o i × Swapped G oldLink W i × (W .w .mem .inForce q ≡ suc n)
+  StageOk q o i (marking k) = Mine G oldLink W q o i × MarkingOk G oldLink (W .w .mem) (W .used) q i k
 
   pub record BusyOk (q : ℕ) (o : Op) (i : ℕ) (g : Stage) : Type 0 where
     pub proc : q < G .p
@@ -87,7 +89,8 @@ module _ (G : Grid) (oldLink : ℕ → Link) (W : World) where
     pub early : (e : Entry) → List·Memᴰ e (W .log) → e .at < W .w .now
     pub complete : (d : Done) → List·Memᴰ d (W .w .ended) → (e : Entry) × List·Memᴰ e (W .log) × Is e d
     pub sound : (e : Entry) → List·Memᴰ e (W .log) → ((d : Done) × List·Memᴰ d (W .w .ended) × Is e d) ⊎ Under e
-    pub over : (d : Done) → List·Memᴰ d (W .w .ended) → (q : ℕ) (o : Op) (i : ℕ) (g : Stage) → W .w .lane q ≡ busy o i g → d .began ≢ W .w .since q
+    pub over : (d : Done) → List·Memᴰ d (W .w .ended) → (q : ℕ) (o : Op) (i : ℕ) (g : Stage) → W .w .lane q ≡ busy o i g
+        → d .began ≢ W .w .since q
 
   -- `counts`: settled marks, marks in force and used places, none more than the next. `places`: a used place marks no cell
   -- whose old link it is. `apart`: two operations under way began at two calls.
@@ -96,5 +99,6 @@ module _ (G : Grid) (oldLink : ℕ → Link) (W : World) where
     pub cells : (i : ℕ) → i < G .m → CellOk i
     pub counts : (q : ℕ) → (settled (W .w .lane q) (W .w .mem .inForce q) ≤ W .w .mem .inForce q) × (W .w .mem .inForce q ≤ W .used q)
     pub places : (q n i : ℕ) → i < G .m → n < W .used q → W .w .mem .marks q n ≡ G .code i → oldLink i ≢ mk q n
-    pub apart : (q r : ℕ) (o o′ : Op) (i i′ : ℕ) (g g′ : Stage) → W .w .lane q ≡ busy o i g → W .w .lane r ≡ busy o′ i′ g′ → W .w .since q ≡ W .w .since r → q ≡ r
+    pub apart : (q r : ℕ) (o o′ : Op) (i i′ : ℕ) (g g′ : Stage) → W .w .lane q ≡ busy o i g → W .w .lane r ≡ busy o′ i′ g′
+        → W .w .since q ≡ W .w .since r → q ≡ r
     pub logs : LogOk

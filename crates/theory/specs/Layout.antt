@@ -5,49 +5,34 @@ use Prim.Native.Nat.{ℕ, suc, _+_, _^_, _<_}
 use native.Mathlib.Omega.{arith}
 use Rattle.theory.specs.Array.{Op}
 use Rattle.theory.specs.Segments.{off-inside, off-apart}
-use Rattle.theory.specs.Machine.{Grid, Link, mk, Stage, Lane, idle, busy}
+use Rattle.theory.specs.Machine.{Grid, Link, mk, Marking, Stage, marking, busy}
 use Rattle.theory.specs.Words.{Words, address}
+use Rattle.theory.specs.Standing.{ready}
 use Rattle.theory.specs.World.{World}
 
 module _ (G : Grid) where
-  -- the segments of a lane whose starts stand in the directory
-  abbrev pub readyAt : Stage → ℕ → ℕ
-  readyAt Stage.store d = d
-  readyAt Stage.checkLink d = d
-  readyAt (Stage.checkMarks L) d = d
-  readyAt (Stage.checkDirectory L) d = d
-  readyAt (Stage.checkMark L) d = d
-  readyAt Stage.fetch d = d
-  readyAt (Stage.draw s L n) d = d
-  readyAt (Stage.enter s L n) d = G .shape .seg n
-  readyAt (Stage.tombstone L n) d = d
-  readyAt (Stage.mark L n) d = d
-  readyAt (Stage.force L n) d = d
-  readyAt (Stage.swap L n) d = d
-  readyAt (Stage.takeBack n) d = d
-
-  abbrev pub ready : Lane → ℕ → ℕ
-  ready idle d = d
-  ready (busy o i g) d = readyAt g d
-
   -- the segment s at a start belongs to lane r
   abbrev pub Owns : (ℕ → Link) → ℕ → ℕ → ℕ → ℕ → Type 0
   Owns own top r s start = (k : ℕ) → k < 2 ^ suc s → (own (start + k) ≡ mk r s) × (start + k < top)
 
+  -- what holds of the words while process q marks, and at any stage
+  abbrev pub LayoutIn : (ℕ → ℕ) → Words → (ℕ → Link) → ℕ → Marking → Type 0
+  LayoutIn drawn P own q (Marking.draw s S n) = G .shape .seg n ≡ drawn q
+  LayoutIn drawn P own q (Marking.enter s S n) = (drawn q ≡ suc (G .shape .seg n)) × Owns own (P .top) q (G .shape .seg n) (P .held q)
+  LayoutIn drawn P own q (Marking.tombstone S n) = G .shape .seg n < drawn q
+  LayoutIn drawn P own q (Marking.mark S n) = G .shape .seg n < drawn q
+  LayoutIn drawn P own q (Marking.force S n) = Unit {0}
+  LayoutIn drawn P own q (Marking.swap S n) = Unit {0}
+  LayoutIn drawn P own q (Marking.takeBack n) = Unit {0}
+
   abbrev pub LayoutAt : (ℕ → ℕ) → Words → (ℕ → Link) → ℕ → Stage → Type 0
   LayoutAt drawn P own q Stage.store = Unit {0}
   LayoutAt drawn P own q Stage.checkLink = Unit {0}
-  LayoutAt drawn P own q (Stage.checkMarks L) = Unit {0}
-  LayoutAt drawn P own q (Stage.checkDirectory L) = Unit {0}
-  LayoutAt drawn P own q (Stage.checkMark L) = P .held q ≡ P .directory (L .proc) (G .shape .seg (L .place))
+  LayoutAt drawn P own q (Stage.checkMarks S) = Unit {0}
+  LayoutAt drawn P own q (Stage.checkDirectory S) = Unit {0}
+  LayoutAt drawn P own q (Stage.checkMark S) = P .held q ≡ P .directory (S .at .proc) (G .shape .seg (S .at .place))
   LayoutAt drawn P own q Stage.fetch = Unit {0}
-  LayoutAt drawn P own q (Stage.draw s L n) = G .shape .seg n ≡ drawn q
-  LayoutAt drawn P own q (Stage.enter s L n) = (drawn q ≡ suc (G .shape .seg n)) × Owns own (P .top) q (G .shape .seg n) (P .held q)
-  LayoutAt drawn P own q (Stage.tombstone L n) = G .shape .seg n < drawn q
-  LayoutAt drawn P own q (Stage.mark L n) = G .shape .seg n < drawn q
-  LayoutAt drawn P own q (Stage.force L n) = Unit {0}
-  LayoutAt drawn P own q (Stage.swap L n) = Unit {0}
-  LayoutAt drawn P own q (Stage.takeBack n) = Unit {0}
+  LayoutAt drawn P own q (marking k) = LayoutIn drawn P own q k
 
   pub record Layout (W : World) (P : Words) (own : ℕ → Link) : Type 0 where
     pub marks : (r n : ℕ) → r < G .p → n < W .used r → W .w .mem .marks r n ≡ P .pool (address G P r n)
@@ -57,8 +42,9 @@ module _ (G : Grid) where
 
 -- two places at one address are one place
 module _ (G : Grid) (P : Words) (own : ℕ → Link) where
-  pub same-address : (q n r k : ℕ) → Owns G own (P .top) q (G .shape .seg n) (P .directory q (G .shape .seg n)) → Owns G own (P .top) r (G .shape .seg k) (P .directory r (G .shape .seg k)) → address G P q n ≡ address G P r k → (q ≡ r) × (n ≡ k)
-  same-address q n r k a b h = (hq, off-apart (G .shape) n k hs (let z : P .directory q (G .shape .seg n) ≡ P .directory r (G .shape .seg k) = cc (hq, hs) in omega arith))
+  pub same-address : (q n r k : ℕ) → Owns G own (P .top) q (G .shape .seg n) (P .directory q (G .shape .seg n))
+      → Owns G own (P .top) r (G .shape .seg k) (P .directory r (G .shape .seg k)) → address G P q n ≡ address G P r k → (q ≡ r) × (n ≡ k)
+  same-address q n r k a b h = (hq, off-apart (G .shape) n k hs offs)
     where
       one : mk q (G .shape .seg n) ≡ mk r (G .shape .seg k)
       one = sym (a (G .shape .off n) (off-inside (G .shape) n) .0) ∙ ap own h ∙ b (G .shape .off k) (off-inside (G .shape) k) .0
@@ -68,3 +54,6 @@ module _ (G : Grid) (P : Words) (own : ℕ → Link) where
 
       hs : G .shape .seg n ≡ G .shape .seg k
       hs = ap (λ (y : Link). y .place) one
+
+      offs : G .shape .off n ≡ G .shape .off k
+      offs = let z : P .directory q (G .shape .seg n) ≡ P .directory r (G .shape .seg k) = cc (hq, hs) in omega arith

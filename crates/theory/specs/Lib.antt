@@ -24,7 +24,6 @@ pub mod Calm
 pub mod Steps
 -- the steps of any array: check, drawing, tombstone, mark, take-back, swap
 pub mod Check
-pub mod Draw
 pub mod Mark
 pub mod Swap
 -- the steps of write-then-mark: store first, all stored writes enter the order at the won swap
@@ -43,6 +42,7 @@ pub mod Count
 pub mod Tallies
 -- the layout in the pool
 pub mod Layout
+pub mod LayoutAside
 pub mod LayoutSteps
 pub mod LayoutStages
 pub mod Top
@@ -55,5 +55,10 @@ pub mod Whole
 pub mod Touch
 pub mod Consequences
 pub mod AtRest
+-- beyond one array: a part of the cells, operations one after another
+pub mod Part
+pub mod Sequence
+-- for the crates above
 pub mod Interface
+-- starred examples of the scope
 pub mod Trial

@@ -41,22 +41,29 @@ pub record Link : Type 0 where
 abbrev pub mk : ℕ → ℕ → Link
 mk q n = record { proc = q; place = n }
 
--- Where an operation stands. The check is (a) to (d); L is the link that (a) read. `draw` and `enter` say whether the
--- tombstone is stored already.
+-- what (a) found, which an operation remembers
+pub record Seen : Type 0 where
+  pub at : Link
+
+-- Rules 3 to 8 of a write, at a place of the own lane. `draw` and `enter` say whether the tombstone is stored already.
+pub data Marking : Type 0 where
+  draw : Bool → Seen → ℕ → Marking
+  enter : Bool → Seen → ℕ → Marking
+  tombstone : Seen → ℕ → Marking
+  mark : Seen → ℕ → Marking
+  force : Seen → ℕ → Marking
+  swap : Seen → ℕ → Marking
+  takeBack : ℕ → Marking
+
+-- Where an operation stands. The check is (a) to (d).
 pub data Stage : Type 0 where
   store : Stage
   checkLink : Stage
-  checkMarks : Link → Stage
-  checkDirectory : Link → Stage
-  checkMark : Link → Stage
+  checkMarks : Seen → Stage
+  checkDirectory : Seen → Stage
+  checkMark : Seen → Stage
   fetch : Stage
-  draw : Bool → Link → ℕ → Stage
-  enter : Bool → Link → ℕ → Stage
-  tombstone : Link → ℕ → Stage
-  mark : Link → ℕ → Stage
-  force : Link → ℕ → Stage
-  swap : Link → ℕ → Stage
-  takeBack : ℕ → Stage
+  marking : Marking → Stage
 
 pub data Lane : Type 0 where
   idle : Lane
@@ -92,11 +99,16 @@ turnTo c n = record { change = c; next = n }
 
 abbrev pub poke : Mem → ℕ → Change → Mem
 poke M q keep = M
-poke M q (setReading i v) = record { reading = upd (M .reading) i v; link = M .link; inForce = M .inForce; drawn = M .drawn; marks = M .marks }
-poke M q (setLink i L) = record { reading = M .reading; link = upd (M .link) i L; inForce = M .inForce; drawn = M .drawn; marks = M .marks }
-poke M q (setInForce n) = record { reading = M .reading; link = M .link; inForce = upd (M .inForce) q n; drawn = M .drawn; marks = M .marks }
-poke M q (setDrawn k) = record { reading = M .reading; link = M .link; inForce = M .inForce; drawn = upd (M .drawn) q k; marks = M .marks }
-poke M q (setMark n c) = record { reading = M .reading; link = M .link; inForce = M .inForce; drawn = M .drawn; marks = upd (M .marks) q (upd (M .marks q) n c) }
+poke M q (setReading i v) =
+    record { reading = upd (M .reading) i v; link = M .link; inForce = M .inForce; drawn = M .drawn; marks = M .marks }
+poke M q (setLink i L) =
+    record { reading = M .reading; link = upd (M .link) i L; inForce = M .inForce; drawn = M .drawn; marks = M .marks }
+poke M q (setInForce n) =
+    record { reading = M .reading; link = M .link; inForce = upd (M .inForce) q n; drawn = M .drawn; marks = M .marks }
+poke M q (setDrawn k) =
+    record { reading = M .reading; link = M .link; inForce = M .inForce; drawn = upd (M .drawn) q k; marks = M .marks }
+poke M q (setMark n c) =
+    record { reading = M .reading; link = M .link; inForce = M .inForce; drawn = M .drawn; marks = upd (M .marks) q (upd (M .marks q) n c) }
 
 -- two links are the same or not
 unfoldable pub sameLink : (a b : Link) → Dec (a ≡ b)
@@ -112,10 +124,15 @@ wordOf read = 0
 wordOf asked = 0
 wordOf (write v) = v
 
--- 4. A drawn place: where the tombstone is not stored yet and the remembered link is exactly this place, the tombstone; else the mark.
-abbrev pub usePlace : Bool → ℕ → Link → ℕ → Stage
-usePlace true q L n = mark L n
-usePlace false q L n = pick (sameLink L (mk q n)) (tombstone L n) (mark L n)
+-- 4. A drawn place: where the tombstone is not stored yet and the remembered link is exactly this place, the tombstone;
+-- else the mark.
+abbrev pub usePlace : Bool → ℕ → Seen → ℕ → Marking
+usePlace true q S n = mark S n
+usePlace false q S n = pick (sameLink (S .at) (mk q n)) (tombstone S n) (mark S n)
+
+-- what (a) sees of a cell
+abbrev pub look : Mem → ℕ → Seen
+look M i = record { at = M .link i }
 
 -- how an operation goes on once its cell is known to be written
 abbrev pub passed : Op → Next
@@ -125,30 +142,38 @@ passed (write v) = end done
 
 module _ (G : Grid) where
   -- 3. A place whose segment is not drawn is drawn first.
-  abbrev pub plan : Bool → Mem → ℕ → Link → ℕ → Stage
-  plan s M q L n = pick (decLt (G .shape .seg n) (M .drawn q)) (usePlace s q L n) (draw s L n)
+  abbrev pub plan : Bool → Mem → ℕ → Seen → ℕ → Marking
+  plan s M q S n = pick (decLt (G .shape .seg n) (M .drawn q)) (usePlace s q S n) (draw s S n)
 
   -- how an operation goes on once its check has failed
-  abbrev pub failed : Mem → ℕ → Op → ℕ → Link → Next
-  failed M q read i L = end (got (G .f i) false)
-  failed M q asked i L = end (told false)
-  failed M q (write v) i L = go (plan false M q L (M .inForce q))
+  abbrev pub failed : Mem → ℕ → Op → ℕ → Seen → Next
+  failed M q read i S = end (got (G .f i) false)
+  failed M q asked i S = end (told false)
+  failed M q (write v) i S = go (marking (plan false M q S (M .inForce q)))
+
+  -- 3 to 8, one step of process q
+  abbrev pub markTurn : Mem → ℕ → Op → ℕ → Marking → Turn
+  markTurn M q o i (draw s S n) = turnTo (setDrawn (suc (G .shape .seg n))) (go (marking (enter s S n)))
+  markTurn M q o i (enter s S n) = turnTo keep (go (marking (usePlace s q S n)))
+  markTurn M q o i (tombstone S n) = turnTo (setMark n (G .grave)) (go (marking (plan true M q S (suc n))))
+  markTurn M q o i (mark S n) = turnTo (setMark n (G .code i)) (go (marking (force S n)))
+  markTurn M q o i (force S n) = turnTo (setInForce (suc n)) (go (marking (swap S n)))
+  markTurn M q o i (swap S n) =
+      pick (sameLink (M .link i) (S .at)) (turnTo (setLink i (mk q n)) (passed o)) (turnTo keep (go (marking (takeBack n))))
+  markTurn M q o i (takeBack n) = turnTo (setInForce n) (passed o)
 
   -- one step of process q at a stage of its operation on cell i
   abbrev pub takeTurn : Mem → ℕ → Op → ℕ → Stage → Turn
   takeTurn M q o i store = turnTo (setReading i (wordOf o)) (go checkLink)
-  takeTurn M q o i checkLink = turnTo keep (pick (decLt (M .link i .proc) (G .p)) (go (checkMarks (M .link i))) (failed M q o i (M .link i)))
-  takeTurn M q o i (checkMarks L) = turnTo keep (pick (decLt (L .place) (M .inForce (L .proc))) (go (checkDirectory L)) (failed M q o i L))
-  takeTurn M q o i (checkDirectory L) = turnTo keep (go (checkMark L))
-  takeTurn M q o i (checkMark L) = turnTo keep (pick (ℕ-discrete (M .marks (L .proc) (L .place)) (G .code i)) (passed o) (failed M q o i L))
+  takeTurn M q o i checkLink =
+      turnTo keep (pick (decLt (M .link i .proc) (G .p)) (go (checkMarks (look M i))) (failed M q o i (look M i)))
+  takeTurn M q o i (checkMarks S) =
+      turnTo keep (pick (decLt (S .at .place) (M .inForce (S .at .proc))) (go (checkDirectory S)) (failed M q o i S))
+  takeTurn M q o i (checkDirectory S) = turnTo keep (go (checkMark S))
+  takeTurn M q o i (checkMark S) =
+      turnTo keep (pick (ℕ-discrete (M .marks (S .at .proc) (S .at .place)) (G .code i)) (passed o) (failed M q o i S))
   takeTurn M q o i fetch = turnTo keep (end (got (M .reading i) true))
-  takeTurn M q o i (draw s L n) = turnTo (setDrawn (suc (G .shape .seg n))) (go (enter s L n))
-  takeTurn M q o i (enter s L n) = turnTo keep (go (usePlace s q L n))
-  takeTurn M q o i (tombstone L n) = turnTo (setMark n (G .grave)) (go (plan true M q L (suc n)))
-  takeTurn M q o i (mark L n) = turnTo (setMark n (G .code i)) (go (force L n))
-  takeTurn M q o i (force L n) = turnTo (setInForce (suc n)) (go (swap L n))
-  takeTurn M q o i (swap L n) = pick (sameLink (M .link i) L) (turnTo (setLink i (mk q n)) (passed o)) (turnTo keep (go (takeBack n)))
-  takeTurn M q o i (takeBack n) = turnTo (setInForce n) (passed o)
+  takeTurn M q o i (marking k) = markTurn M q o i k
 
 -- a run so far: the machine, how many calls were made, the call that began each lane's operation, and what has ended
 pub record Watch : Type 0 where
@@ -176,11 +201,29 @@ abbrev pub pass : Watch → Watch
 pass w = record { mem = w .mem; lane = w .lane; now = suc (w .now); since = w .since; ended = w .ended }
 
 abbrev pub started : Watch → ℕ → Op → ℕ → Watch
-started w q o i = record { mem = w .mem; lane = upd (w .lane) q (busy o i (firstStage o)); now = suc (w .now); since = upd (w .since) q (w .now); ended = w .ended }
+started w q o i = record {
+  mem = w .mem;
+  lane = upd (w .lane) q (busy o i (firstStage o));
+  now = suc (w .now);
+  since = upd (w .since) q (w .now);
+  ended = w .ended;
+}
 
 abbrev pub stepped : Watch → ℕ → Op → ℕ → Turn → Watch
-stepped w q o i t = record { mem = poke (w .mem) q (t .change); lane = upd (w .lane) q (nextLane o i (t .next)); now = suc (w .now); since = w .since; ended = finish w q o i (t .next) }
+stepped w q o i t = record {
+  mem = poke (w .mem) q (t .change);
+  lane = upd (w .lane) q (nextLane o i (t .next));
+  now = suc (w .now);
+  since = w .since;
+  ended = finish w q o i (t .next);
+}
 
 -- a grid as opened: any old words, no marks in force, nothing drawn, no operation under way
 unfoldable pub opened : (ℕ → ℕ) → (ℕ → Link) → (ℕ → ℕ → ℕ) → Watch
-opened readings links marks = record { mem = record { reading = readings; link = links; inForce = λ q. 0; drawn = λ q. 0; marks = marks }; lane = λ q. idle; now = 0; since = λ q. 0; ended = [] }
+opened readings links marks = record {
+  mem = record { reading = readings; link = links; inForce = λ q. 0; drawn = λ q. 0; marks = marks };
+  lane = λ q. idle;
+  now = 0;
+  since = λ q. 0;
+  ended = [];
+}

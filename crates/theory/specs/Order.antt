@@ -2,9 +2,10 @@
 -- Assumes nothing.
 use mathlib.Core.Path.{_≡_}
 use mathlib.Core.Logic.{_≢_}
+use mathlib.Core.Bool.{Bool}
 use mathlib.Core.List.{List, [], _∷_, _++_, List·Memᴰ}
 use Prim.Native.Nat.{ℕ, _≤_, _<_}
-use Rattle.theory.specs.Array.{Op, Ans, Deed, answer}
+use Rattle.theory.specs.Array.{Op, Ans, Deed, value, written, answer}
 
 -- an operation that has ended: the numbers of the call that began it and of its last step
 pub record Done : Type 0 where
@@ -27,6 +28,13 @@ pub record Entry : Type 0 where
 unfoldable pub deeds : List Entry → List Deed
 deeds [] = []
 deeds (e ∷ es) = record { op = e .op; cell = e .cell } ∷ deeds es
+
+-- the array after the entries of a list
+abbrev pub valueIn : (ℕ → ℕ) → List Entry → ℕ → ℕ
+valueIn f es i = value f (deeds es) i
+
+abbrev pub writtenIn : List Entry → ℕ → Bool
+writtenIn es i = written (deeds es) i
 
 -- What an entry says of those before it: its answer is the array's after them; it takes its place after the call that
 -- began it, and not before any of them; and none of them is the same operation. (One call begins one operation at most.)

@@ -9,14 +9,7 @@ use native.Mathlib.Decide.{ℕ-discrete}
 use native.Mathlib.Omega.{arith}
 use Rattle.theory.specs.Base.{pick}
 use Rattle.theory.specs.Array.{Op, read, asked, write, valueBy, writtenBy, value, written}
-use Rattle.theory.specs.Order.{Entry, deeds, Orderly}
-
--- the array after the entries of a list
-abbrev pub valueIn : (ℕ → ℕ) → List Entry → ℕ → ℕ
-valueIn f es i = value f (deeds es) i
-
-abbrev pub writtenIn : List Entry → ℕ → Bool
-writtenIn es i = written (deeds es) i
+use Rattle.theory.specs.Order.{Entry, deeds, Orderly, valueIn, writtenIn}
 
 pub no-false : {A : Type 0} → true ≡ false → A
 no-false k = absurd (let y : _≡_ {A = ℕ} 0 1 = cc in omega arith)

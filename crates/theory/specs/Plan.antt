@@ -1,4 +1,4 @@
--- The stage that follows a failed check, a directory entry or a tombstone is one of three: what holds of all three.
+-- What follows a failed check, a directory entry or a tombstone is one of three: what holds of all three.
 -- Assumes nothing.
 use mathlib.Core.Path.{_≡_, refl, sym, ap, _∙_}
 use mathlib.Core.Logic.{_≢_}
@@ -7,49 +7,54 @@ use Prim.Native.Nat.{ℕ, suc, _≤_, _<_}
 use native.Mathlib.Decide.{decLt}
 use native.Mathlib.Omega.{arith}
 use Rattle.theory.specs.Base.{pick}
-use Rattle.theory.specs.Array.{Op}
-use Rattle.theory.specs.Machine.{Grid, Link, mk, Stage, Mem, sameLink, usePlace, plan}
-use Rattle.theory.specs.Standing.{After, settledAt, frontAt}
-use Rattle.theory.specs.World.{World}
-use Rattle.theory.specs.Inv.{Clear, Making, StageOk}
+use Rattle.theory.specs.Machine.{Grid, Link, mk, Seen, Marking, Mem, sameLink, usePlace, plan}
+use Rattle.theory.specs.Standing.{standingIn, settledBy, frontBy}
+use Rattle.theory.specs.Inv.{Clear, Making, MarkingOk}
 
-pub use-cases : (P : Stage → Type 0) (s : Bool) (q : ℕ) (L : Link) (n : ℕ) → Clear s q L n → (L ≡ mk q n → P (Stage.tombstone L n)) → (L ≢ mk q n → P (Stage.mark L n)) → P (usePlace s q L n)
-use-cases P true q L n c t k = k c
-use-cases P false q L n c t k = by (sameLink L (mk q n))
-  where
-    by : (d : Dec (L ≡ mk q n)) → P (pick d (Stage.tombstone L n) (Stage.mark L n))
-    by (yes y) = t y
-    by (no y) = k y
+module _ (P : Marking → Type 0) (s : Bool) (q : ℕ) (S : Seen) (n : ℕ) where
+  pub use-cases : Clear s q S n → (S .at ≡ mk q n → P (Marking.tombstone S n)) → (S .at ≢ mk q n → P (Marking.mark S n)) → P (usePlace s q S n)
+  use-cases = by s
+    where
+      tests : (d : Dec (S .at ≡ mk q n)) → (S .at ≡ mk q n → P (Marking.tombstone S n)) → (S .at ≢ mk q n → P (Marking.mark S n))
+          → P (pick d (Marking.tombstone S n) (Marking.mark S n))
+      tests (yes y) t k = t y
+      tests (no y) t k = k y
 
-pub plan-cases : (P : Stage → Type 0) (G : Grid) (s : Bool) (M : Mem) (q : ℕ) (L : Link) (n : ℕ) → Clear s q L n
-    → (G .shape .seg n < M .drawn q → L ≡ mk q n → P (Stage.tombstone L n))
-    → (G .shape .seg n < M .drawn q → L ≢ mk q n → P (Stage.mark L n))
-    → (M .drawn q ≤ G .shape .seg n → P (Stage.draw s L n)) → P (plan G s M q L n)
-plan-cases P G s M q L n c t k d = by (decLt (G .shape .seg n) (M .drawn q))
-  where
-    by : (z : Dec (G .shape .seg n < M .drawn q)) → P (pick z (usePlace s q L n) (Stage.draw s L n))
-    by (yes h) = use-cases P s q L n c (t h) (k h)
-    by (no h) = d (omega arith)
+      by : (s : Bool) → Clear s q S n → (S .at ≡ mk q n → P (Marking.tombstone S n)) → (S .at ≢ mk q n → P (Marking.mark S n)) → P (usePlace s q S n)
+      by true c t k = k c
+      by false c t k = tests (sameLink (S .at) (mk q n)) t k
 
--- each of the three has stored, leaves the marks in force alone, and has place n in front of it
-pub record Stands (n c : ℕ) (g : Stage) : Type 0 where
-  pub stored : After g
-  pub settled : settledAt g c ≡ c
-  pub front : frontAt g c ≡ n
+  pub plan-cases : (G : Grid) (M : Mem) → Clear s q S n
+      → (G .shape .seg n < M .drawn q → S .at ≡ mk q n → P (Marking.tombstone S n))
+      → (G .shape .seg n < M .drawn q → S .at ≢ mk q n → P (Marking.mark S n))
+      → (M .drawn q ≤ G .shape .seg n → P (Marking.draw s S n)) → P (plan G s M q S n)
+  plan-cases G M c t k d = by (decLt (G .shape .seg n) (M .drawn q))
+    where
+      by : (z : Dec (G .shape .seg n < M .drawn q)) → P (pick z (usePlace s q S n) (Marking.draw s S n))
+      by (yes h) = use-cases c (t h) (k h)
+      by (no h) = d (omega arith)
 
-pub use-stands : (s : Bool) (q : ℕ) (L : Link) (n c : ℕ) → Clear s q L n → Stands n c (usePlace s q L n)
-use-stands s q L n c h = use-cases (λ g. Stands n c g) s q L n h (λ k. record { stored = tt; settled = refl; front = refl }) (λ k. record { stored = tt; settled = refl; front = refl })
+-- each of the three leaves the marks in force alone, and has place n in front of it
+pub record Stands (n c : ℕ) (k : Marking) : Type 0 where
+  pub settled : settledBy (standingIn k) c ≡ c
+  pub front : frontBy (standingIn k) c ≡ n
 
-pub plan-stands : (G : Grid) (s : Bool) (M : Mem) (q : ℕ) (L : Link) (n c : ℕ) → Clear s q L n → Stands n c (plan G s M q L n)
-plan-stands G s M q L n c h = plan-cases (λ g. Stands n c g) G s M q L n h (λ y k. record { stored = tt; settled = refl; front = refl }) (λ y k. record { stored = tt; settled = refl; front = refl }) (λ y. record { stored = tt; settled = refl; front = refl })
+pub use-stands : (s : Bool) (q : ℕ) (S : Seen) (n c : ℕ) → Clear s q S n → Stands n c (usePlace s q S n)
+use-stands s q S n c h =
+    use-cases (λ k. Stands n c k) s q S n h (λ k. record { settled = refl; front = refl }) (λ k. record { settled = refl; front = refl })
 
-module _ (G : Grid) (oldLink : ℕ → Link) (W : World) (s : Bool) (q : ℕ) (o : Op) (i : ℕ) (L : Link) (n : ℕ) (h : Making G oldLink W q o i L n) (c : Clear s q L n) where
-  pub use-ok : StageOk G oldLink W q o i (usePlace s q L n)
-  use-ok = use-cases (λ g. StageOk G oldLink W q o i g) s q L n c (λ k. (h, k)) (λ k. (h, k))
+pub plan-stands : (G : Grid) (s : Bool) (M : Mem) (q : ℕ) (S : Seen) (n c : ℕ) → Clear s q S n → Stands n c (plan G s M q S n)
+plan-stands G s M q S n c h = plan-cases (λ k. Stands n c k) s q S n G M h
+    (λ y k. record { settled = refl; front = refl }) (λ y k. record { settled = refl; front = refl }) (λ y. record { settled = refl; front = refl })
 
-  pub plan-ok : (M : Mem) → StageOk G oldLink W q o i (plan G s M q L n)
-  plan-ok M = plan-cases (λ g. StageOk G oldLink W q o i g) G s M q L n c (λ y k. (h, k)) (λ y k. (h, k)) (λ y. (h, c))
+module _ (G : Grid) (oldLink : ℕ → Link) (M : Mem) (used : ℕ → ℕ) (s : Bool) (q i : ℕ) (S : Seen) (n : ℕ) (h : Making G oldLink M used q i S n)
+    (c : Clear s q S n) where
+  pub use-ok : MarkingOk G oldLink M used q i (usePlace s q S n)
+  use-ok = use-cases (λ k. MarkingOk G oldLink M used q i k) s q S n c (λ k. (h, k)) (λ k. (h, k))
+
+  pub plan-ok : (M₁ : Mem) → MarkingOk G oldLink M used q i (plan G s M₁ q S n)
+  plan-ok M₁ = plan-cases (λ k. MarkingOk G oldLink M used q i k) s q S n G M₁ c (λ y k. (h, k)) (λ y k. (h, k)) (λ y. (h, c))
 
 -- the place after a tombstone's is not the remembered link's
-pub past-tombstone : (q : ℕ) (L : Link) (n : ℕ) → L ≡ mk q n → L ≢ mk q (suc n)
-past-tombstone q L n h u = let z : n ≡ suc n = ap (λ (y : Link). y .place) (sym h ∙ u) in let y : ⊥ = omega arith in y
+pub past-tombstone : (q : ℕ) (S : Seen) (n : ℕ) → S .at ≡ mk q n → S .at ≢ mk q (suc n)
+past-tombstone q S n h u = let z : n ≡ suc n = ap (λ (y : Link). y .place) (sym h ∙ u) in let y : ⊥ = omega arith in y

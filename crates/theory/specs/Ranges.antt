@@ -10,7 +10,7 @@ use Rattle.theory.specs.Base.{upd, upd-same, upd-other}
 use Rattle.theory.specs.Array.{Op}
 use Rattle.theory.specs.Machine.{Grid, mostMarks, poolWords, Lawful, Link, Stage, busy, Watch}
 use Rattle.theory.specs.Run.{Tally}
-use Rattle.theory.specs.Standing.{Standing, outside, checking, making, marking, hanging, standingAt, frontBy, usedBy, usedNext, front}
+use Rattle.theory.specs.Standing.{Standing, nowhere, making, entering, stamping, hanging, standingAt, frontBy, usedBy, usedNext, front}
 use Rattle.theory.specs.Sum
 use Rattle.theory.specs.Account.{Owed, Drawn, Account}
 use Rattle.theory.specs.Count
@@ -38,13 +38,17 @@ module _ {G : Grid} {oldLink : ℕ → Link} {T : Tally} {w : Watch} (C : Accoun
       by (no z) = omega arith
 
   pub drawn-le : (A : Lawful G) (q : ℕ) → w .mem .drawn q ≤ G .shape .segments
-  drawn-le A q = segments-suffice A (w .mem .drawn q) (d .n) (⊎-elim (λ (h : 2 ^ w .mem .drawn q ≤ d .n + 1). omega arith) (λ (h : (2 ^ w .mem .drawn q ≤ d .n + 2) × (T .procs q ≡ 1)). h .0) (d .small)) (places-le q (d .n) (d .owed))
+  drawn-le A q =
+      segments-suffice A (w .mem .drawn q) (d .n)
+      (⊎-elim (λ (h : 2 ^ w .mem .drawn q ≤ d .n + 1). omega arith) (λ (h : (2 ^ w .mem .drawn q ≤ d .n + 2) × (T .procs q ≡ 1)). h .0) (d .small))
+      (places-le q (d .n) (d .owed))
     where
       d : Drawn G oldLink T (w .mem) q
       d = C .draws q
 
   -- a place that is used lies below the most
-  pub few-step : (used : ℕ → ℕ) → ((r : ℕ) → used r ≤ mostMarks G) → (q : ℕ) (o : Op) (i : ℕ) (g : Stage) → w .lane q ≡ busy o i g → (r : ℕ) → usedNext used q g r ≤ mostMarks G
+  pub few-step : (used : ℕ → ℕ) → ((r : ℕ) → used r ≤ mostMarks G) → (q : ℕ) (o : Op) (i : ℕ) (g : Stage) → w .lane q ≡ busy o i g → (r : ℕ)
+      → usedNext used q g r ≤ mostMarks G
   few-step used few q o i g e r = by (standingAt g) (rw e at (front-le q))
     where
       raised : (n : ℕ) → n < mostMarks G → Dec (r ≡ q) → upd used q (max (used q) (suc n)) r ≤ mostMarks G
@@ -52,8 +56,8 @@ module _ {G : Grid} {oldLink : ℕ → Link} {T : Tally} {w : Watch} (C : Accoun
       raised n h (no z) = rw (upd-other used q (max (used q) (suc n)) r z) (few r)
 
       by : (t : Standing) → frontBy t (w .mem .inForce q) < mostMarks G → usedBy t used q r ≤ mostMarks G
-      by outside h = few r
-      by checking h = few r
+      by nowhere h = few r
       by (making n) h = few r
-      by (marking n) h = raised n h (ℕ-discrete r q)
+      by (entering n) h = few r
+      by (stamping n) h = raised n h (ℕ-discrete r q)
       by (hanging n) h = few r

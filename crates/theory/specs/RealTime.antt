@@ -17,7 +17,8 @@ earlier-first f (x ∷ es) h d e md me k = by (List·Memᴰ·cases-cons md) (Lis
     by (inl p) (inl q) ih = absurd (let y : ⊥ = omega (arith, ap (λ (z : Entry). z .at) p, ap (λ (z : Entry). z .at) q) in y)
     by (inl p) (inr q) ih = absurd (let y : ⊥ = omega (arith, ap (λ (z : Entry). z .at) p, h .0 .sorted e q) in y)
     by (inr p) (inl q) ih = record { newer = []; older = es; split = ap (λ (z : Entry). z ∷ es) (sym q); there = p }
-    by (inr p) (inr q) ih = let b = ih p q k in record { newer = x ∷ b .newer; older = b .older; split = ap (λ (z : List Entry). x ∷ z) (b .split); there = b .there }
+    by (inr p) (inr q) ih = let b = ih p q k in
+        record { newer = x ∷ b .newer; older = b .older; split = ap (λ (z : List Entry). x ∷ z) (b .split); there = b .there }
 
 -- an ended operation stands before every one that began after its end
 pub ended-first : (f : ℕ → ℕ) (order : List Entry) → Orderly f order → (d e : Entry) → List·Memᴰ d order → List·Memᴰ e order

@@ -14,7 +14,8 @@ use Rattle.theory.specs.ClaimsKept.{Frame}
 use Rattle.theory.specs.Frame.{lane-frame}
 
 -- later, with the beginnings of the operations under way as they were
-module _ {G : Grid} {oldLink : ℕ → Link} {W : World} (I : Inv G oldLink W) (now : ℕ) (since : ℕ → ℕ) (late : W .w .now ≤ now) (same : (r : ℕ) (o : Op) (i : ℕ) (g : Stage) → W .w .lane r ≡ busy o i g → since r ≡ W .w .since r) where
+module _ {G : Grid} {oldLink : ℕ → Link} {W : World} (I : Inv G oldLink W) (now : ℕ) (since : ℕ → ℕ) (late : W .w .now ≤ now)
+    (same : (r : ℕ) (o : Op) (i : ℕ) (g : Stage) → W .w .lane r ≡ busy o i g → since r ≡ W .w .since r) where
   abbrev pub later : World
   later = record { w = record { mem = W .w .mem; lane = W .w .lane; now = now; since = since; ended = W .w .ended }; log = W .log; used = W .used }
 
@@ -30,7 +31,12 @@ module _ {G : Grid} {oldLink : ℕ → Link} {W : World} (I : Inv G oldLink W) (
     link = λ j h. refl;
     more = λ z m. m;
     fresh = λ r o i g ne k ns u z m. rw (same r o i g k) (u z m);
-    wrote = λ r o i g ne k a h. record { v = h .v; is = h .is; new = λ t. (h .new t .0, rw (same r o i g k) (h .new t .1)); old = λ t z m. rw (same r o i g k) (h .old t z m) };
+    wrote = λ r o i g ne k a h. record {
+      v = h .v;
+      is = h .is;
+      new = λ t. (h .new t .0, rw (same r o i g k) (h .new t .1));
+      old = λ t z m. rw (same r o i g k) (h .old t z m);
+    };
   }
 
   pub rest-inv : Inv G oldLink later
@@ -44,7 +50,8 @@ module _ {G : Grid} {oldLink : ℕ → Link} {W : World} (I : Inv G oldLink W) (
       orderly = I .logs .orderly;
       early = λ z m. omega (arith, I .logs .early z m);
       complete = I .logs .complete;
-      sound = λ z m. ⊎-elim (λ (h : (d : Done) × List·Memᴰ d (W .w .ended) × Is z d). inl h) (λ (h : Under G oldLink W z). inr (under z h)) (I .logs .sound z m);
+      sound = λ z m.
+          ⊎-elim (λ (h : (d : Done) × List·Memᴰ d (W .w .ended) × Is z d). inl h) (λ (h : Under G oldLink W z). inr (under z h)) (I .logs .sound z m);
       over = λ d m q o i g k. rw (same q o i g k) (I .logs .over d m q o i g k);
     };
   }

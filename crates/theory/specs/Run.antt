@@ -13,12 +13,6 @@ pub record Tally : Type 0 where
   pub cells : ℕ → ℕ
   pub procs : ℕ → ℕ
 
--- the operations that count as a write
-abbrev pub Writing : Op → Type 0
-Writing read = ⊥
-Writing asked = ⊥
-Writing (write v) = Unit {0}
-
 abbrev pub tallied : Tally → ℕ → Op → ℕ → Tally
 tallied T q read i = T
 tallied T q asked i = T
@@ -43,7 +37,12 @@ abbrev pub beginRun : Run → ℕ → Op → ℕ → Run
 beginRun R q o i = record { watch = started (R .watch) q o i; words = R .words; tally = tallied (R .tally) q o i; taken = upd (R .taken) q 0 }
 
 abbrev pub stepRun : Grid → Run → ℕ → Op → ℕ → Stage → Run
-stepRun G R q o i g = record { watch = stepped (R .watch) q o i (takeTurn G (R .watch .mem) q o i g); words = wordsAfter G (R .words) q i g; tally = R .tally; taken = upd (R .taken) q (suc (R .taken q)) }
+stepRun G R q o i g = record {
+  watch = stepped (R .watch) q o i (takeTurn G (R .watch .mem) q o i g);
+  words = wordsAfter G (R .words) q i g;
+  tally = R .tally;
+  taken = upd (R .taken) q (suc (R .taken q));
+}
 
 module _ (G : Grid) (R : Run) where
   abbrev pub callBegin : ℕ → Op → ℕ → Lane → Run
@@ -64,4 +63,9 @@ afterCalls G R (c ∷ cs) = afterCalls G (afterCall G R c) cs
 
 -- a grid opened over any words (marks and held starts are ghosts, and may be anything)
 abbrev pub openedRun : (ℕ → ℕ) → (ℕ → Link) → (ℕ → ℕ → ℕ) → (ℕ → ℕ → ℕ) → (ℕ → ℕ) → (ℕ → ℕ) → Run
-openedRun readings links marks directory pool held = record { watch = opened readings links marks; words = record { directory = directory; pool = pool; top = 0; held = held }; tally = record { cells = λ i. 0; procs = λ q. 0 }; taken = λ q. 0 }
+openedRun readings links marks directory pool held = record {
+  watch = opened readings links marks;
+  words = record { directory = directory; pool = pool; top = 0; held = held };
+  tally = record { cells = λ i. 0; procs = λ q. 0 };
+  taken = λ q. 0;
+}

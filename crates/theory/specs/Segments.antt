@@ -27,12 +27,18 @@ module _ (S : Shape) where
   seg-next n = by (decLt (suc (S .seg n)) (S .seg (suc n)))
     where
       by : Dec (suc (S .seg n) < S .seg (suc n)) → S .seg (suc n) ≤ suc (S .seg n)
-      by (yes h) = absurd (let y : ⊥ = omega (arith, pow-mono {i = suc (suc (suc (S .seg n)))} {j = suc (S .seg (suc n))} (omega arith), S .high n, S .low n, S .low (suc n)) in y)
+      by (yes h) =
+          absurd
+          (let y : ⊥ = omega (arith, pow-mono {i = suc (suc (suc (S .seg n)))} {j = suc (S .seg (suc n))} (omega arith), S .high n, S .low n, S .low (suc n)) in
+          y)
       by (no h) = omega arith
 
   -- every segment has at least two places
   pub seg-double : (n : ℕ) → S .seg n < S .seg (suc n) → S .seg (suc (suc n)) ≡ S .seg (suc n)
-  seg-double n h = sym (seg-unique (suc (suc n)) (S .seg (suc n)) (omega (arith, S .low (suc n))) (omega (arith, S .high n, S .low (suc n), pow-mono {i = suc (suc (S .seg n))} {j = suc (S .seg (suc n))} (omega arith))))
+  seg-double n h =
+      sym
+      (seg-unique (suc (suc n)) (S .seg (suc n)) (omega (arith, S .low (suc n)))
+      (omega (arith, S .high n, S .low (suc n), pow-mono {i = suc (suc (S .seg n))} {j = suc (S .seg (suc n))} (omega arith))))
 
   pub off-inside : (n : ℕ) → S .off n < 2 ^ suc (S .seg n)
   off-inside n = omega (arith, S .at n, S .high n)

@@ -6,10 +6,9 @@ use mathlib.Core.Bool.{Bool}
 use mathlib.Core.List.{List, [], _∷_, List·Memᴰ, List·Memᴰ·head, List·Memᴰ·tail, List·Memᴰ·cases-cons}
 use Prim.Native.Nat.{ℕ}
 use Rattle.theory.specs.Array.{Op, read, asked, write, told, valueBy, writtenBy, value, written, answer}
-use Rattle.theory.specs.Order.{Done, Entry, deeds, Fits, Orderly, Is}
+use Rattle.theory.specs.Order.{Done, Entry, deeds, Fits, Orderly, Is, valueIn, writtenIn}
 use Rattle.theory.specs.Machine.{Grid, Link}
 use Rattle.theory.specs.OneOrder.{Pending, OneOrder}
-use Rattle.theory.specs.OrderLaws.{valueIn, writtenIn}
 use Rattle.theory.specs.World.{World}
 use Rattle.theory.specs.Inv.{Under, Inv}
 
@@ -33,7 +32,15 @@ module _ {G : Grid} {oldLink : ℕ → Link} {W : World} (I : Inv G oldLink W) w
   keep-entry : (x : Entry) (es : List Entry) (es′ : List Entry) → Fits (G .f) x es → Sieved es es′ → Fin x ⊎ Pending (W .w) x → Sieved (x ∷ es) (x ∷ es′)
   unfolding value written deeds
   keep-entry x es es′ F S g = record {
-    orderly = (record { right = F .right ∙ answer-same es es′ S (x .op) (x .cell); after = F .after; sorted = λ d m. F .sorted d (S .sub d m); once = λ d m. F .once d (S .sub d m) }, S .orderly);
+    orderly = (
+      record {
+        right = F .right ∙ answer-same es es′ S (x .op) (x .cell);
+        after = F .after;
+        sorted = λ d m. F .sorted d (S .sub d m);
+        once = λ d m. F .once d (S .sub d m);
+      },
+      S .orderly,
+    );
     sub = λ z m. ⊎-elim (λ (h : z ≡ x). List·Memᴰ·head h) (λ (h : List·Memᴰ z es′). List·Memᴰ·tail (S .sub z h)) (List·Memᴰ·cases-cons m);
     same = λ j. rw (S .same j);
     vals = λ j. rw (S .vals j);
@@ -64,7 +71,10 @@ module _ {G : Grid} {oldLink : ℕ → Link} {W : World} (I : Inv G oldLink W) w
     same = λ j. S .same j ∙ quiet-written (x .op) (x .cell) j (writtenIn es j) s;
     vals = λ j. S .vals j ∙ quiet-value (x .op) (x .cell) j (valueIn (G .f) es j) s;
     good = S .good;
-    kept = λ z m f. ⊎-elim (λ (h : z ≡ x). absurd (I .logs .over (f .0) (f .1) (x .who) (x .op) (x .cell) (u .stage) (u .lane) (sym (f .2 .began) ∙ ap (λ (y : Entry). y .began) h ∙ sym (u .since))))
+    kept = λ z m f.
+        ⊎-elim
+        (λ (h : z ≡ x). absurd
+        (I .logs .over (f .0) (f .1) (x .who) (x .op) (x .cell) (u .stage) (u .lane) (sym (f .2 .began) ∙ ap (λ (y : Entry). y .began) h ∙ sym (u .since))))
         (λ (h : List·Memᴰ z es). S .kept z h f) (List·Memᴰ·cases-cons m);
   }
 
@@ -76,11 +86,19 @@ module _ {G : Grid} {oldLink : ℕ → Link} {W : World} (I : Inv G oldLink W) w
       by t (inl f) o k = (x ∷ t .0, keep-entry x es (t .0) (h .0) (t .1) (inl f))
       by t (inr u) read k = (t .0, drop-entry x es (t .0) (t .1) u (rw k tt))
       by t (inr u) asked k = (t .0, drop-entry x es (t .0) (t .1) u (rw k tt))
-      by t (inr u) (write v) k = (x ∷ t .0, keep-entry x es (t .0) (h .0) (t .1) (inr (record { stage = u .stage; lane = u .lane; since = u .since; value = v; writes = k })))
+      by t (inr u) (write v) k = (
+        x ∷ t .0,
+        keep-entry x es (t .0) (h .0) (t .1) (inr (record { stage = u .stage; lane = u .lane; since = u .since; value = v; writes = k })),
+      )
 
   pub sieved-order : OneOrder (G .f) (W .w)
   unfolding Fin
-  sieved-order = record { order = t .0; orderly = t .1 .orderly; complete = λ d m. let c = I .logs .complete d m in (c .0, t .1 .kept (c .0) (c .1) (d, m, c .2), c .2); sound = t .1 .good }
+  sieved-order = record {
+    order = t .0;
+    orderly = t .1 .orderly;
+    complete = λ d m. let c = I .logs .complete d m in (c .0, t .1 .kept (c .0) (c .1) (d, m, c .2), c .2);
+    sound = t .1 .good;
+  }
     where
       t : (es′ : List Entry) × Sieved (W .log) es′
       t = sieve (W .log) (I .logs .orderly) (I .logs .sound)

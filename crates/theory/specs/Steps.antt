@@ -6,19 +6,23 @@ use mathlib.Core.List.{List, _∷_, List·Memᴰ, List·Memᴰ·cases-cons}
 use Prim.Native.Nat.{ℕ, _≤_}
 use native.Mathlib.Omega.{arith}
 use Rattle.theory.specs.Array.{Op, Ans}
-use Rattle.theory.specs.Order.{Entry}
-use Rattle.theory.specs.Machine.{Grid, Link, Stage, busy, Mem, Next, go, end, Turn, nextLane, stepped}
-use Rattle.theory.specs.Standing.{After, settledAt, settled}
-use Rattle.theory.specs.OrderLaws.{valueIn, writtenIn}
+use Rattle.theory.specs.Order.{Entry, valueIn, writtenIn}
+use Rattle.theory.specs.Machine.{Grid, Link, Stage, busy, Mem, Next, go, end, Turn, takeTurn, nextLane, stepped}
+use Rattle.theory.specs.Standing.{After, settledAt, usedNext, settled}
 use Rattle.theory.specs.World.{World, Swapped}
 use Rattle.theory.specs.Claims.{Writes}
 use Rattle.theory.specs.Inv.{StageOk, BusyOk, Inv}
 use Rattle.theory.specs.Log.{turned, Pre, pre-keep, log-go, log-end}
+use Rattle.theory.specs.ClaimsKept.{Frame}
 use Rattle.theory.specs.Calm.{Own, complete-inv, quiet-frame, still-cell}
 
 -- the invariant after the turn t, with some order
 unfoldable pub Kept : Grid → (ℕ → Link) → World → ℕ → Op → ℕ → Turn → (ℕ → ℕ) → Type 0
 Kept G oldLink W q o i t used = (log : List Entry) × Inv G oldLink (record { w = stepped (W .w) q o i t; log = log; used = used })
+
+-- the invariant after q's step at a stage
+abbrev pub KeptAt : Grid → (ℕ → Link) → World → ℕ → Op → ℕ → Stage → Type 0
+KeptAt G oldLink W q o i g = Kept G oldLink W q o i (takeTurn G (W .w .mem) q o i g) (usedNext (W .used) q g)
 
 module _ {G : Grid} {oldLink : ℕ → Link} {W : World} (I : Inv G oldLink W) (q : ℕ) {o : Op} {i : ℕ} {g : Stage} (e : W .w .lane q ≡ busy o i g) where
   pub busyOk : BusyOk G oldLink W q o i g
@@ -41,9 +45,6 @@ module _ {G : Grid} {oldLink : ℕ → Link} {W : World} (I : Inv G oldLink W) (
     places = λ n j hj hn h. I .places q n j hj hn (sym (hm q n) ∙ h);
   }
 
-  abbrev pub redrawn : (ℕ → ℕ) → Mem
-  redrawn d = record { reading = W .w .mem .reading; link = W .w .mem .link; inForce = W .w .mem .inForce; drawn = d; marks = W .w .mem .marks }
-
   -- an order for this call that changes nothing in the array
   pub record Mild (log : List Entry) : Type 0 where
     pub pre : Pre G oldLink W log
@@ -58,26 +59,48 @@ module _ {G : Grid} {oldLink : ℕ → Link} {W : World} (I : Inv G oldLink W) (
   pub less-cons : (x : Entry) → x .began ≡ W .w .since q → (z : Entry) → List·Memᴰ z (x ∷ W .log) → List·Memᴰ z (W .log) ⊎ (z .began ≡ W .w .since q)
   less-cons x k z m = ⊎-elim (λ (h : z ≡ x). inr (ap (λ (y : Entry). y .began) h ∙ k)) (λ (h : List·Memᴰ z (W .log)). inl h) (List·Memᴰ·cases-cons m)
 
-  module _ (d : ℕ → ℕ) (log : List Entry) (L : Mild log) where
-    pub go-quiet : (g′ : Stage) → After g → After g′ → settledAt g′ (W .w .mem .inForce q) ≡ settledAt g (W .w .mem .inForce q)
-        → StageOk G oldLink (turned W q o i (redrawn d) (W .used) (go g′) log) q o i g′ → Inv G oldLink (turned W q o i (redrawn d) (W .used) (go g′) log)
-    go-quiet g′ a a′ hs h = complete-inv I q e (redrawn d) (W .used) (go g′) log O
-        (quiet-frame I q e (redrawn d) (W .used) (go g′) log O (record { more = L .more; less = L .less; same = L .same; link = λ j t. refl }))
+  -- a step that leaves readings and links: what goes on, and what ends
+  module _ (M : Mem) (used : ℕ → ℕ) (log : List Entry) (L : Mild log) (links : (j : ℕ) → M .link j ≡ W .w .mem .link j)
+      (readings : (j : ℕ) → M .reading j ≡ W .w .mem .reading j) where
+    framed : (nx : Next) (O : Own I q e M used nx) → Frame G oldLink q W (turned W q o i M used nx log)
+    framed nx O = quiet-frame I q e M used nx log O (record { more = L .more; less = L .less; same = L .same; link = λ j t. links j })
+
+    pub go-calm : (g′ : Stage) → Own I q e M used (go g′) → After g → After g′ → StageOk G oldLink (turned W q o i M used (go g′) log) q o i g′
+        → Inv G oldLink (turned W q o i M used (go g′) log)
+    go-calm g′ O a a′ h = complete-inv I q e M used (go g′) log O (framed (go g′) O)
         (record { proc = busyOk .proc; cell = busyOk .cell; past = omega (arith, busyOk .past); at = h })
-        (λ j. still-cell I q e (redrawn d) (W .used) (go g′) log O j (record { same = L .same j; vals = L .vals j; link = refl; reading = refl; hold = λ v t s. (s .0, s .1, a′); from = λ v s. (s .0, s .1, a) }))
-        (log-go q e (redrawn d) (W .used) (L .pre) g′)
-      where
-        O : Own I q e (redrawn d) (W .used) (go g′)
-        O = own-same (redrawn d) (λ r. refl) (λ r n. refl) (go g′) hs
+        (λ j. still-cell I q e M used (go g′) log O j (record {
+          same = L .same j;
+          vals = L .vals j;
+          link = links j;
+          reading = readings j;
+          hold = λ v t s. (s .0, s .1, a′);
+          from = λ v s. (s .0, s .1, a);
+        }))
+        (log-go q e M used (L .pre) g′)
+
+    pub end-calm : (a : Ans) (t : ℕ) → Own I q e M used (end a) → ((v : ℕ) → Writes o v → Swapped G oldLink W i)
+        → List·Memᴰ (record { at = t; began = W .w .since q; who = q; op = o; cell = i; ans = a }) log → Inv G oldLink (turned W q o i M used (end a) log)
+    end-calm a t O nw m = complete-inv I q e M used (end a) log O (framed (end a) O) tt
+        (λ j. still-cell I q e M used (end a) log O j (record {
+          same = L .same j;
+          vals = L .vals j;
+          link = links j;
+          reading = readings j;
+          hold = λ v u s. absurd (nw v (s .0) (subst (λ (x : ℕ). W .w .mem .link x ≡ oldLink x) (sym (s .1)) u));
+          from = λ v s. absurd s;
+        }))
+        (log-end q e M used (L .pre) a t m)
+
+  -- a step that changes no word
+  module _ (log : List Entry) (L : Mild log) where
+    pub go-quiet : (g′ : Stage) → After g → After g′ → settledAt g′ (W .w .mem .inForce q) ≡ settledAt g (W .w .mem .inForce q)
+        → StageOk G oldLink (turned W q o i (W .w .mem) (W .used) (go g′) log) q o i g′ → Inv G oldLink (turned W q o i (W .w .mem) (W .used) (go g′) log)
+    go-quiet g′ a a′ hs =
+        go-calm (W .w .mem) (W .used) log L (λ j. refl) (λ j. refl) g′ (own-same (W .w .mem) (λ r. refl) (λ r n. refl) (go g′) hs) a a′
 
     pub end-quiet : (a : Ans) (t : ℕ) → settledAt g (W .w .mem .inForce q) ≡ W .w .mem .inForce q → ((v : ℕ) → Writes o v → Swapped G oldLink W i)
         → List·Memᴰ (record { at = t; began = W .w .since q; who = q; op = o; cell = i; ans = a }) log
-        → Inv G oldLink (turned W q o i (redrawn d) (W .used) (end a) log)
-    end-quiet a t hs nw m = complete-inv I q e (redrawn d) (W .used) (end a) log O
-        (quiet-frame I q e (redrawn d) (W .used) (end a) log O (record { more = L .more; less = L .less; same = L .same; link = λ j t. refl }))
-        tt
-        (λ j. still-cell I q e (redrawn d) (W .used) (end a) log O j (record { same = L .same j; vals = L .vals j; link = refl; reading = refl; hold = λ v u s. absurd (nw v (s .0) (subst (λ (x : ℕ). W .w .mem .link x ≡ oldLink x) (sym (s .1)) u)); from = λ v s. absurd s }))
-        (log-end q e (redrawn d) (W .used) (L .pre) a t m)
-      where
-        O : Own I q e (redrawn d) (W .used) (end a)
-        O = own-same (redrawn d) (λ r. refl) (λ r n. refl) (end a) (sym hs)
+        → Inv G oldLink (turned W q o i (W .w .mem) (W .used) (end a) log)
+    end-quiet a t hs =
+        end-calm (W .w .mem) (W .used) log L (λ j. refl) (λ j. refl) a t (own-same (W .w .mem) (λ r. refl) (λ r n. refl) (end a) (sym hs))

@@ -8,7 +8,7 @@ use native.Mathlib.Decide.{ℕ-discrete}
 use native.Mathlib.Omega.{arith}
 use Rattle.theory.specs.Base.{upd-same, upd-other}
 use Rattle.theory.specs.Array.{Op, read, asked, write, done}
-use Rattle.theory.specs.Order.{Entry}
+use Rattle.theory.specs.Order.{Entry, valueIn, writtenIn}
 use Rattle.theory.specs.Machine.{Grid, Link, Stage, busy, Mem, setReading, go, turnTo, poke, takeTurn}
 use Rattle.theory.specs.OrderLaws
 use Rattle.theory.specs.World.{World}
@@ -42,17 +42,32 @@ module _ {G : Grid} {oldLink : ℕ → Link} {W : World} (I : Inv G oldLink W) (
       here = upd-same (W .w .mem .reading) i v
 
       -- the other cells
-      beside : (log : List Entry) → ((j : ℕ) → j ≢ i → OrderLaws.writtenIn log j ≡ OrderLaws.writtenIn (W .log) j) → ((j : ℕ) → j ≢ i → OrderLaws.valueIn (G .f) log j ≡ OrderLaws.valueIn (G .f) (W .log) j)
+      beside : (log : List Entry) → ((j : ℕ) → j ≢ i → writtenIn log j ≡ writtenIn (W .log) j)
+          → ((j : ℕ) → j ≢ i → valueIn (G .f) log j ≡ valueIn (G .f) (W .log) j)
           → (j : ℕ) → j < G .m → j ≢ i → CellOk G oldLink (Log.turned W q (write v) i M (W .used) (go Stage.checkLink) log) j
       beside log hs hv j hj ne = Calm.still-cell I q e M (W .used) (go Stage.checkLink) log O j
-          (record { same = hs j ne; vals = hv j ne; link = refl; reading = upd-other (W .w .mem .reading) i v j ne; hold = λ v t s. absurd (s .2); from = λ v s. absurd (ne (sym (s .1))) }) hj
+          (record {
+            same = hs j ne;
+            vals = hv j ne;
+            link = refl;
+            reading = upd-other (W .w .mem .reading) i v j ne;
+            hold = λ v t s. absurd (s .2);
+            from = λ v s. absurd (ne (sym (s .1)));
+          })
+          hj
 
       by : CellOk G oldLink W i → Kept G oldLink W q (write v) i (turnTo (setReading i v) (go Stage.checkLink)) (W .used)
       by (old t k s) = (
         W .log,
         Calm.complete-inv I q e M (W .used) (go Stage.checkLink) (W .log) O
-            (Calm.quiet-frame I q e M (W .used) (go Stage.checkLink) (W .log) O (record { more = λ z m. m; less = λ z m. inl m; same = λ j. refl; link = λ j t. refl }))
-            (record { proc = b .proc; cell = b .cell; past = omega (arith, b .past); at = record { v = v; is = refl; new = λ t₁. OrderLaws.no-false (sym t₁ ∙ t); old = λ t₁. b .at .0 } })
+            (Calm.quiet-frame I q e M (W .used) (go Stage.checkLink) (W .log) O
+            (record { more = λ z m. m; less = λ z m. inl m; same = λ j. refl; link = λ j t. refl }))
+            (record {
+              proc = b .proc;
+              cell = b .cell;
+              past = omega (arith, b .past);
+              at = record { v = v; is = refl; new = λ t₁. OrderLaws.no-false (sym t₁ ∙ t); old = λ t₁. b .at .0 };
+            })
             cells′
             (Log.log-go q e M (W .used) (Log.pre-keep I) Stage.checkLink),
       )
@@ -72,8 +87,19 @@ module _ {G : Grid} {oldLink : ℕ → Link} {W : World} (I : Inv G oldLink W) (
       by (new t w y p₀ p₁ p₂) = (
         x ∷ W .log,
         Calm.complete-inv I q e M (W .used) (go Stage.checkLink) (x ∷ W .log) O
-            (Calm.quiet-frame I q e M (W .used) (go Stage.checkLink) (x ∷ W .log) O (record { more = λ z m. List·Memᴰ·tail m; less = Steps.less-cons I q e x refl; same = same′; link = λ j t. refl }))
-            (record { proc = b .proc; cell = b .cell; past = omega (arith, b .past); at = record { v = v; is = refl; new = λ t₁. (W .w .now, List·Memᴰ·head refl); old = λ t₁. OrderLaws.no-false (sym (OrderLaws.written-here x (W .log) v i refl refl) ∙ t₁) } })
+            (Calm.quiet-frame I q e M (W .used) (go Stage.checkLink) (x ∷ W .log) O
+            (record { more = λ z m. List·Memᴰ·tail m; less = Steps.less-cons I q e x refl; same = same′; link = λ j t. refl }))
+            (record {
+              proc = b .proc;
+              cell = b .cell;
+              past = omega (arith, b .past);
+              at = record {
+                v = v;
+                is = refl;
+                new = λ t₁. (W .w .now, List·Memᴰ·head refl);
+                old = λ t₁. OrderLaws.no-false (sym (OrderLaws.written-here x (W .log) v i refl refl) ∙ t₁);
+              };
+            })
             cells′
             (Log.log-go q e M (W .used) (Log.pre-place (Log.pre-keep I) q done e (b .past) (b .at .0) refl) Stage.checkLink),
       )
@@ -81,10 +107,10 @@ module _ {G : Grid} {oldLink : ℕ → Link} {W : World} (I : Inv G oldLink W) (
           W′ : World
           W′ = Log.turned W q (write v) i M (W .used) (go Stage.checkLink) (x ∷ W .log)
 
-          same′ : (j : ℕ) → OrderLaws.writtenIn (x ∷ W .log) j ≡ OrderLaws.writtenIn (W .log) j
+          same′ : (j : ℕ) → writtenIn (x ∷ W .log) j ≡ writtenIn (W .log) j
           same′ j = at-j (ℕ-discrete j i)
             where
-              at-j : Dec (j ≡ i) → OrderLaws.writtenIn (x ∷ W .log) j ≡ OrderLaws.writtenIn (W .log) j
+              at-j : Dec (j ≡ i) → writtenIn (x ∷ W .log) j ≡ writtenIn (W .log) j
               at-j (yes z) = rw z (OrderLaws.written-here x (W .log) v i refl refl ∙ sym w)
               at-j (no z) = OrderLaws.written-away x (W .log) j z
 
@@ -92,5 +118,8 @@ module _ {G : Grid} {oldLink : ℕ → Link} {W : World} (I : Inv G oldLink W) (
           cells′ j hj = at-j (ℕ-discrete j i)
             where
               at-j : Dec (j ≡ i) → CellOk G oldLink W′ j
-              at-j (yes z) = rw z (Calm.certified I q e M (W .used) (go Stage.checkLink) (x ∷ W .log) O i refl (OrderLaws.written-here x (W .log) v i refl refl) (OrderLaws.value-here (G .f) x (W .log) v i refl refl ∙ sym here) (new t w y p₀ p₁ p₂) t)
+              at-j (yes z) =
+                  rw z
+                  (Calm.certified I q e M (W .used) (go Stage.checkLink) (x ∷ W .log) O i refl (OrderLaws.written-here x (W .log) v i refl refl)
+                  (OrderLaws.value-here (G .f) x (W .log) v i refl refl ∙ sym here) (new t w y p₀ p₁ p₂) t)
               at-j (no z) = beside (x ∷ W .log) (λ j ne. OrderLaws.written-away x (W .log) j ne) (λ j ne. OrderLaws.value-away (G .f) x (W .log) j ne) j hj z

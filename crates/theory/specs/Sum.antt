@@ -67,7 +67,9 @@ pub double-count : (p m : ℕ) (n : ℕ → ℕ) (E : ℕ → ℕ → ℕ → �
 double-count p m n E B cover once = omega (arith, lower, regrouped, upper)
   where
     lower : sum n p ≤ sum (λ q. sum (λ k. sum (E q k) m) (n q)) p
-    lower = sum-mono n (λ q. sum (λ k. sum (E q k) m) (n q)) p (λ q hq. omega (arith, sum-ones (n q), sum-mono (λ k. 1) (λ k. sum (E q k) m) (n q) (λ k hk. cover q k hq hk)))
+    lower =
+        sum-mono n (λ q. sum (λ k. sum (E q k) m) (n q)) p
+        (λ q hq. omega (arith, sum-ones (n q), sum-mono (λ k. 1) (λ k. sum (E q k) m) (n q) (λ k hk. cover q k hq hk)))
 
     inner : (q : ℕ) → sum (λ k. sum (E q k) m) (n q) ≡ sum (λ i. sum (λ k. E q k i) (n q)) m
     inner q = sum-swap (E q) (n q) m
@@ -88,9 +90,11 @@ sum-upd F f q v (suc n) h = by (ℕ-discrete n q) (sum-upd F f q v n)
     before zero h = refl
     before (suc n) h = ap₂′ (before n (omega arith)) (ap F (upd-other f q v n (λ z. let y : ⊥ = omega arith in y)))
       where
-        ap₂′ : sum (λ r. F (upd f q v r)) n ≡ sum (λ r. F (f r)) n → F (upd f q v n) ≡ F (f n) → sum (λ r. F (upd f q v r)) n + F (upd f q v n) ≡ sum (λ r. F (f r)) n + F (f n)
+        ap₂′ : sum (λ r. F (upd f q v r)) n ≡ sum (λ r. F (f r)) n → F (upd f q v n) ≡ F (f n)
+            → sum (λ r. F (upd f q v r)) n + F (upd f q v n) ≡ sum (λ r. F (f r)) n + F (f n)
         ap₂′ a b = omega arith
 
-    by : Dec (n ≡ q) → (q < n → sum (λ r. F (upd f q v r)) n + F (f q) ≡ sum (λ r. F (f r)) n + F v) → (sum (λ r. F (upd f q v r)) n + F (upd f q v n)) + F (f q) ≡ (sum (λ r. F (f r)) n + F (f n)) + F v
+    by : Dec (n ≡ q) → (q < n → sum (λ r. F (upd f q v r)) n + F (f q) ≡ sum (λ r. F (f r)) n + F v)
+        → (sum (λ r. F (upd f q v r)) n + F (upd f q v n)) + F (f q) ≡ (sum (λ r. F (f r)) n + F (f n)) + F v
     by (yes k) ih = omega (arith, before n (omega arith), ap F (ap (upd f q v) k ∙ upd-same f q v), ap (λ (x : ℕ). F (f x)) k)
     by (no k) ih = omega (arith, ih (omega arith), ap F (upd-other f q v n k))

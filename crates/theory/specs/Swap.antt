@@ -5,42 +5,43 @@ use mathlib.Core.Logic.{_≢_}
 use Prim.Native.Nat.{ℕ}
 use native.Mathlib.Omega.{arith}
 use Rattle.theory.specs.Array.{Op}
-use Rattle.theory.specs.Machine.{Grid, Link, mk, Stage, busy, Next, go, nextLane}
+use Rattle.theory.specs.Machine.{Grid, Link, mk, Seen, Marking, marking, busy, Next, go, nextLane}
 use Rattle.theory.specs.Standing.{settled}
 use Rattle.theory.specs.World.{World, Swapped}
 use Rattle.theory.specs.Inv.{BusyOk, CellOk, old, new, Inv}
 use Rattle.theory.specs.Log.{turned}
-use Rattle.theory.specs.ClaimsKept.{mine-same}
 use Rattle.theory.specs.Calm.{Own}
 use Rattle.theory.specs.Steps
+use Rattle.theory.specs.Mark.{go-on}
 
-module _ {G : Grid} {oldLink : ℕ → Link} {W : World} (I : Inv G oldLink W) (q : ℕ) {o : Op} {i : ℕ} {L : Link} {n : ℕ} (e : W .w .lane q ≡ busy o i (Stage.swap L n)) where
-  at-swap : BusyOk G oldLink W q o i (Stage.swap L n)
+module _ {G : Grid} {oldLink : ℕ → Link} {W : World} (I : Inv G oldLink W) (q : ℕ) {o : Op} {i : ℕ} {S : Seen} {n : ℕ}
+    (e : W .w .lane q ≡ busy o i (marking (Marking.swap S n))) where
+  at-swap : BusyOk G oldLink W q o i (marking (Marking.swap S n))
   at-swap = Steps.busyOk I q e
 
   -- while the link is the remembered one it is the old one
-  pub unswapped : W .w .mem .link i ≡ L → W .w .mem .link i ≡ oldLink i
+  pub unswapped : W .w .mem .link i ≡ S .at → W .w .mem .link i ≡ oldLink i
   unfolding at-swap
-  unswapped k = k ∙ at-swap .at .0 .bad
+  unswapped k = k ∙ at-swap .at .1 .0 .bad
 
   -- the swap is lost only where another has swapped
-  pub lost : W .w .mem .link i ≢ L → Swapped G oldLink W i
+  pub lost : W .w .mem .link i ≢ S .at → Swapped G oldLink W i
   unfolding at-swap
   lost k = by (I .cells i (at-swap .cell))
     where
       by : CellOk G oldLink W i → Swapped G oldLink W i
-      by (old t h s) = absurd (k (h ∙ sym (at-swap .at .0 .bad)))
+      by (old t h s) = absurd (k (h ∙ sym (at-swap .at .1 .0 .bad)))
       by (new t w y p₀ p₁ p₂) = t
 
-  pub lose : W .w .mem .link i ≢ L → Inv G oldLink (turned W q o i (W .w .mem) (W .used) (go (Stage.takeBack n)) (W .log))
+  pub lose : W .w .mem .link i ≢ S .at → Inv G oldLink (turned W q o i (W .w .mem) (W .used) (go (marking (Marking.takeBack n))) (W .log))
   unfolding at-swap
-  lose k = Steps.go-quiet I q e (W .w .mem .drawn) (W .log) (Steps.mild-keep I q e) (Stage.takeBack n) tt tt refl
-      (mine-same G oldLink W q i _ _ (go (Stage.takeBack n)) o (at-swap .at .0 .wrote), lost k, at-swap .at .1)
+  lose k = go-on I q o i (Marking.swap S n) (Marking.takeBack n) e (W .w .mem .inForce) (W .w .mem .drawn) (W .w .mem .marks) (W .used)
+      (Steps.own-same I q e (W .w .mem) (λ r. refl) (λ r n. refl) (go (marking (Marking.takeBack n))) refl) (lost k, at-swap .at .1 .1)
 
   -- the own place is not the old link
   pub fresh-place : mk q n ≢ oldLink i
   unfolding at-swap
-  fresh-place k = I .places q n i (at-swap .cell) (at-swap .at .0 .high) (at-swap .at .0 .there) (sym k)
+  fresh-place k = I .places q n i (at-swap .cell) (at-swap .at .1 .0 .high) (at-swap .at .1 .0 .there) (sym k)
 
   pub own-swap : (reading : ℕ → ℕ) (link : ℕ → Link) (nx : Next) → ((c : ℕ) → settled (nextLane o i nx) c ≡ c)
       → Own I q e (record { reading = reading; link = link; inForce = W .w .mem .inForce; drawn = W .w .mem .drawn; marks = W .w .mem .marks }) (W .used) nx
@@ -50,7 +51,7 @@ module _ {G : Grid} {oldLink : ℕ → Link} {W : World} (I : Inv G oldLink W) (
     marks = λ r k ne. refl;
     usedOther = λ r ne. refl;
     up = omega arith;
-    rise = rw hs (omega (arith, at-swap .at .1));
+    rise = rw hs (omega (arith, at-swap .at .1 .1));
     kept = λ k h. refl;
     counts = rw hs (omega arith, I .counts q .1);
     places = I .places q;

@@ -8,9 +8,9 @@ use Prim.Native.Nat.{ℕ, zero, suc, _≤_, _<_}
 use native.Mathlib.Decide.{ℕ-discrete}
 use native.Mathlib.Omega.{arith}
 use Rattle.theory.specs.Array.{read, asked, write, done}
-use Rattle.theory.specs.Order.{Entry}
-use Rattle.theory.specs.Machine.{Grid, Link, Stage, Lane, idle, busy}
-use Rattle.theory.specs.Standing.{Standing, outside, checking, making, marking, hanging, standingAt, StoredBy, After}
+use Rattle.theory.specs.Order.{Entry, valueIn, writtenIn}
+use Rattle.theory.specs.Machine.{Grid, Link, Seen, Stage, marking, Lane, idle, busy}
+use Rattle.theory.specs.Standing.{After}
 use Rattle.theory.specs.OrderLaws
 use Rattle.theory.specs.World.{World, Unplaced}
 use Rattle.theory.specs.Claims.{Stored}
@@ -28,26 +28,28 @@ stored-busy (busy (write x) c g) i v s = (g, ap₂′ (s .0) (s .1), s .2)
     ap₂′ : x ≡ v → c ≡ i → busy (write x) c g ≡ busy (write v) i g
     ap₂′ h k = cc
 
-stored-by? : (t : Standing) → Dec (StoredBy t)
-stored-by? outside = no (λ z. z)
-stored-by? checking = yes tt
-stored-by? (making n) = yes tt
-stored-by? (marking n) = yes tt
-stored-by? (hanging n) = yes tt
+after? : (g : Stage) → Dec (After g)
+after? Stage.store = no (λ z. z)
+after? Stage.checkLink = yes tt
+after? (Stage.checkMarks S) = yes tt
+after? (Stage.checkDirectory S) = yes tt
+after? (Stage.checkMark S) = yes tt
+after? Stage.fetch = yes tt
+after? (marking k) = yes tt
 
 -- a lane has stored to cell i, or not
 stored? : (l : Lane) (i : ℕ) → ((v : ℕ) × Stored l i v) ⊎ ((v : ℕ) → Stored l i v → ⊥)
 stored? idle i = inr (λ v s. s)
 stored? (busy read c g) i = inr (λ v s. s .0)
 stored? (busy asked c g) i = inr (λ v s. s .0)
-stored? (busy (write x) c g) i = by (ℕ-discrete c i) (stored-by? (standingAt g))
+stored? (busy (write x) c g) i = by (ℕ-discrete c i) (after? g)
   where
     by : Dec (c ≡ i) → Dec (After g) → ((v : ℕ) × Stored (busy (write x) c g) i v) ⊎ ((v : ℕ) → Stored (busy (write x) c g) i v → ⊥)
     by (yes k) (yes a) = inl (x, (refl, k, a))
     by (yes k) (no a) = inr (λ v s. a (s .2))
     by (no k) d = inr (λ v s. k (s .1))
 
-module _ {G : Grid} {oldLink : ℕ → Link} {W : World} (I : Inv G oldLink W) (i x : ℕ) (hi : OrderLaws.writtenIn (W .log) i ≡ false) where
+module _ {G : Grid} {oldLink : ℕ → Link} {W : World} (I : Inv G oldLink W) (i x : ℕ) (hi : writtenIn (W .log) i ≡ false) where
   -- the entry is one of those that the swap puts into the order
   pub record Newer (k : ℕ) (z : Entry) : Type 0 where
     pub r : ℕ
@@ -63,31 +65,25 @@ module _ {G : Grid} {oldLink : ℕ → Link} {W : World} (I : Inv G oldLink W) (
     pub more : (z : Entry) → List·Memᴰ z (W .log) → List·Memᴰ z log
     pub less : (z : Entry) → List·Memᴰ z log → List·Memᴰ z (W .log) ⊎ Newer k z
     pub all : (r v : ℕ) → r < k → r ≢ x → Stored (W .w .lane r) i v → List·Memᴰ (Log.entry (W .w) r (write v) i done) log
-    pub same : (j : ℕ) → j ≢ i → OrderLaws.writtenIn log j ≡ OrderLaws.writtenIn (W .log) j
-    pub vals : (j : ℕ) → j ≢ i → OrderLaws.valueIn (G .f) log j ≡ OrderLaws.valueIn (G .f) (W .log) j
+    pub same : (j : ℕ) → j ≢ i → writtenIn log j ≡ writtenIn (W .log) j
+    pub vals : (j : ℕ) → j ≢ i → valueIn (G .f) log j ≡ valueIn (G .f) (W .log) j
 
   pub busy-of : (r v : ℕ) → Stored (W .w .lane r) i v → (g : Stage) × (W .w .lane r ≡ busy (write v) i g) × After g × BusyOk G oldLink W r (write v) i g
   busy-of r v s = let t = stored-busy (W .w .lane r) i v s in (t .0, t .1, t .2, rw (t .1) at (I .lanes r))
 
   -- a stored write of an unwritten cell is not yet in the order
-  unjudged : (r v : ℕ) (L : Link) → Judged G oldLink W r (write v) i L → Unplaced G oldLink W r
-  unjudged r v L (sure t z s) = s .old hi
-  unjudged r v L (dud z s) = s .old hi
+  unjudged : (r v : ℕ) (S : Seen) → Judged G oldLink W r (write v) i S → Unplaced G oldLink W r
+  unjudged r v S (sure t z s) = s .old hi
+  unjudged r v S (dud z s) = s .old hi
 
   unplaced-of : (r v : ℕ) (g : Stage) → After g → StageOk G oldLink W r (write v) i g → Unplaced G oldLink W r
   unplaced-of r v Stage.store a h = absurd a
   unplaced-of r v Stage.checkLink a h = h .old hi
-  unplaced-of r v (Stage.checkMarks L) a h = unjudged r v L (h .0)
-  unplaced-of r v (Stage.checkDirectory L) a h = unjudged r v L (h .0)
-  unplaced-of r v (Stage.checkMark L) a h = unjudged r v L (h .0)
+  unplaced-of r v (Stage.checkMarks S) a h = unjudged r v S (h .0)
+  unplaced-of r v (Stage.checkDirectory S) a h = unjudged r v S (h .0)
+  unplaced-of r v (Stage.checkMark S) a h = unjudged r v S (h .0)
   unplaced-of r v Stage.fetch a h = h .2
-  unplaced-of r v (Stage.draw s L n) a h = h .0 .wrote .old hi
-  unplaced-of r v (Stage.enter s L n) a h = h .0 .wrote .old hi
-  unplaced-of r v (Stage.tombstone L n) a h = h .0 .wrote .old hi
-  unplaced-of r v (Stage.mark L n) a h = h .0 .wrote .old hi
-  unplaced-of r v (Stage.force L n) a h = h .0 .wrote .old hi
-  unplaced-of r v (Stage.swap L n) a h = h .0 .wrote .old hi
-  unplaced-of r v (Stage.takeBack n) a h = h .0 .old hi
+  unplaced-of r v (marking k) a h = h .0 .old hi
 
   -- one more write on top
   pub put : (k : ℕ) (log : List Entry) (S : Swept k log) (r v : ℕ) → Stored (W .w .lane r) i v → ((y : ℕ) → y < k → y ≢ x → y ≢ r)
@@ -104,7 +100,17 @@ module _ {G : Grid} {oldLink : ℕ → Link} {W : World} (I : Inv G oldLink W) (
           (S .less z m)
 
   pub sweep : (k : ℕ) → (log : List Entry) × Swept k log
-  sweep zero = (W .log, record { pre = Log.pre-keep I; more = λ z m. m; less = λ z m. inl m; all = λ r v h. absurd (let y : ⊥ = omega arith in y); same = λ j ne. refl; vals = λ j ne. refl })
+  sweep zero = (
+    W .log,
+    record {
+      pre = Log.pre-keep I;
+      more = λ z m. m;
+      less = λ z m. inl m;
+      all = λ r v h. absurd (let y : ⊥ = omega arith in y);
+      same = λ j ne. refl;
+      vals = λ j ne. refl;
+    },
+  )
   sweep (suc k) = next (sweep k) (stored? (W .w .lane k) i) (ℕ-discrete k x)
     where
       wider : (z : Entry) → List·Memᴰ z (W .log) ⊎ Newer k z → List·Memᴰ z (W .log) ⊎ Newer (suc k) z
@@ -114,20 +120,59 @@ module _ {G : Grid} {oldLink : ℕ → Link} {W : World} (I : Inv G oldLink W) (
       lower : (r : ℕ) → r < suc k → r ≢ k → r < k
       lower r h ne = omega arith
 
-      next : (log : List Entry) × Swept k log → ((v : ℕ) × Stored (W .w .lane k) i v) ⊎ ((v : ℕ) → Stored (W .w .lane k) i v → ⊥) → Dec (k ≡ x) → (log : List Entry) × Swept (suc k) log
-      next t d (yes h) = (t .0, record { pre = t .1 .pre; more = t .1 .more; less = λ z m. wider z (t .1 .less z m); all = λ r v hr ne s. t .1 .all r v (lower r hr (λ y. ne (y ∙ h))) ne s; same = t .1 .same; vals = t .1 .vals })
-      next t (inr d) (no h) = (t .0, record { pre = t .1 .pre; more = t .1 .more; less = λ z m. wider z (t .1 .less z m); all = λ r v hr ne s. t .1 .all r v (lower r hr (λ y. d v (rw y at s))) ne s; same = t .1 .same; vals = t .1 .vals })
-      next t (inl d) (no h) = (new-entry ∷ t .0, record { pre = put k (t .0) (t .1) k (d .0) (d .1) (λ y hy ne z. let u : suc k ≤ k = rw z at hy in absurd (let w : ⊥ = omega arith in w)); more = λ z m. List·Memᴰ·tail (t .1 .more z m); less = less′; all = all′; same = λ j ne. OrderLaws.written-away new-entry (t .0) j ne ∙ t .1 .same j ne; vals = λ j ne. OrderLaws.value-away (G .f) new-entry (t .0) j ne ∙ t .1 .vals j ne })
+      next : (log : List Entry) × Swept k log → ((v : ℕ) × Stored (W .w .lane k) i v) ⊎ ((v : ℕ) → Stored (W .w .lane k) i v → ⊥) → Dec (k ≡ x)
+          → (log : List Entry) × Swept (suc k) log
+      next t d (yes h) = (
+        t .0,
+        record {
+          pre = t .1 .pre;
+          more = t .1 .more;
+          less = λ z m. wider z (t .1 .less z m);
+          all = λ r v hr ne s. t .1 .all r v (lower r hr (λ y. ne (y ∙ h))) ne s;
+          same = t .1 .same;
+          vals = t .1 .vals;
+        },
+      )
+      next t (inr d) (no h) = (
+        t .0,
+        record {
+          pre = t .1 .pre;
+          more = t .1 .more;
+          less = λ z m. wider z (t .1 .less z m);
+          all = λ r v hr ne s. t .1 .all r v (lower r hr (λ y. d v (rw y at s))) ne s;
+          same = t .1 .same;
+          vals = t .1 .vals;
+        },
+      )
+      next t (inl d) (no h) = (
+        new-entry ∷ t .0,
+        record {
+          pre = put k (t .0) (t .1) k (d .0) (d .1) (λ y hy ne z. let u : suc k ≤ k = rw z at hy in absurd (let w : ⊥ = omega arith in w));
+          more = λ z m. List·Memᴰ·tail (t .1 .more z m);
+          less = less′;
+          all = all′;
+          same = λ j ne. OrderLaws.written-away new-entry (t .0) j ne ∙ t .1 .same j ne;
+          vals = λ j ne. OrderLaws.value-away (G .f) new-entry (t .0) j ne ∙ t .1 .vals j ne;
+        },
+      )
         where
           new-entry : Entry
           new-entry = Log.entry (W .w) k (write (d .0)) i done
 
           less′ : (z : Entry) → List·Memᴰ z (new-entry ∷ t .0) → List·Memᴰ z (W .log) ⊎ Newer (suc k) z
-          less′ z m = ⊎-elim (λ (y : z ≡ new-entry). inr (record { r = k; v = d .0; stored = d .1; since = ap (λ (u : Entry). u .began) y; below = omega arith; other = h })) (λ (y : List·Memᴰ z (t .0)). wider z (t .1 .less z y)) (List·Memᴰ·cases-cons m)
+          less′ z m =
+              ⊎-elim
+              (λ (y : z ≡ new-entry). inr
+              (record { r = k; v = d .0; stored = d .1; since = ap (λ (u : Entry). u .began) y; below = omega arith; other = h }))
+              (λ (y : List·Memᴰ z (t .0)). wider z (t .1 .less z y)) (List·Memᴰ·cases-cons m)
 
           all′ : (r v : ℕ) → r < suc k → r ≢ x → Stored (W .w .lane r) i v → List·Memᴰ (Log.entry (W .w) r (write v) i done) (new-entry ∷ t .0)
           all′ r v hr ne s = by (ℕ-discrete r k)
             where
               by : Dec (r ≡ k) → List·Memᴰ (Log.entry (W .w) r (write v) i done) (new-entry ∷ t .0)
               by (no y) = List·Memᴰ·tail (t .1 .all r v (lower r hr y) ne s)
-              by (yes y) = let b = busy-of k (d .0) (d .1) in let c = busy-of r v s in let u : busy (write v) i (c .0) ≡ busy (write (d .0)) i (b .0) = sym (c .1) ∙ ap (W .w .lane) y ∙ b .1 in let vv : v ≡ d .0 = cc in let eq : Log.entry (W .w) r (write v) i done ≡ new-entry = rw (y, vv) in List·Memᴰ·head eq
+              by (yes y) = let b = busy-of k (d .0) (d .1) in
+                  let c = busy-of r v s in
+                  let u : busy (write v) i (c .0) ≡ busy (write (d .0)) i (b .0) = sym (c .1) ∙ ap (W .w .lane) y ∙ b .1 in
+                  let vv : v ≡ d .0 = cc in
+                  let eq : Log.entry (W .w) r (write v) i done ≡ new-entry = rw (y, vv) in List·Memᴰ·head eq

@@ -6,9 +6,9 @@ use Prim.Native.Nat.{ℕ, _+_, _^_, _≤_, _<_}
 use native.Mathlib.Decide.{ℕ-discrete}
 use native.Mathlib.Omega.{arith}
 use Rattle.theory.specs.Base.{upd, upd-same, upd-other}
-use Rattle.theory.specs.Array.{Op, read, asked, write}
+use Rattle.theory.specs.Array.{Op, read, asked, write, Writing}
 use Rattle.theory.specs.Machine.{Grid, Link, Stage, Lane, idle, busy, Mem, Watch, firstStage, started, opened}
-use Rattle.theory.specs.Run.{Tally, Writing, tallied}
+use Rattle.theory.specs.Run.{Tally, tallied}
 use Rattle.theory.specs.Standing.{frontAt, front}
 use Rattle.theory.specs.Account.{Owed, Drawn, Account}
 
@@ -58,7 +58,8 @@ module _ {G : Grid} {oldLink : ℕ → Link} where
   owed-counts : (T T′ : Tally) → Counts T T′ → (M : Mem) (q k : ℕ) → Owed G oldLink T M q k → Owed G oldLink T′ M q k
   owed-counts T T′ C M q k h = record { i = h .i; cell = h .cell; begun = C .cells (h .i) (h .begun); which = h .which }
 
-  pub acc-start : {T : Tally} {w : Watch} → Account G oldLink T w → (q : ℕ) (o : Op) (i : ℕ) → w .lane q ≡ idle → Account G oldLink (tallied T q o i) (started w q o i)
+  pub acc-start : {T : Tally} {w : Watch} → Account G oldLink T w → (q : ℕ) (o : Op) (i : ℕ) → w .lane q ≡ idle
+      → Account G oldLink (tallied T q o i) (started w q o i)
   acc-start {T} {w} A q o i free = record { begun = begun′; fronts = fronts′; draws = draws′; wrote = λ j hj t. C .cells j (A .wrote j hj t) }
     where
       T′ : Tally
@@ -71,7 +72,9 @@ module _ {G : Grid} {oldLink : ℕ → Link} where
       l = busy o i (firstStage o)
 
       new : (v : Op) (j : ℕ) (g : Stage) → busy o i (firstStage o) ≡ busy v j g → Writing v → (T′ .cells j ≡ 1) × (T′ .procs q ≡ 1)
-      new v j g k b = let ho : o ≡ v = cc in let hi : i ≡ j = cc in subst (λ (y : ℕ). (T′ .cells y ≡ 1) × (T′ .procs q ≡ 1)) hi (tallied-new T q o i (subst (λ (y : Op). Writing y) (sym ho) b))
+      new v j g k b = let ho : o ≡ v = cc in
+          let hi : i ≡ j = cc in
+          subst (λ (y : ℕ). (T′ .cells y ≡ 1) × (T′ .procs q ≡ 1)) hi (tallied-new T q o i (subst (λ (y : Op). Writing y) (sym ho) b))
 
       begun′ : (r : ℕ) (v : Op) (j : ℕ) (g : Stage) → upd (w .lane) q l r ≡ busy v j g → Writing v → (T′ .cells j ≡ 1) × (T′ .procs r ≡ 1)
       begun′ r v j g k b = by (ℕ-discrete r q)
@@ -84,15 +87,30 @@ module _ {G : Grid} {oldLink : ℕ → Link} where
       fronts′ r k = by (ℕ-discrete r q)
         where
           by : Dec (r ≡ q) → k < front (upd (w .lane) q l r) (w .mem .inForce r) → Owed G oldLink T′ (w .mem) r k
-          by (yes h) = rw h (rw (upd-same (w .lane) q l) (λ y. owed-counts T T′ C (w .mem) q k (A .fronts q k (rw free (rw (first-front o (w .mem .inForce q)) at y)))))
+          by (yes h) =
+              rw h
+              (rw (upd-same (w .lane) q l)
+              (λ y. owed-counts T T′ C (w .mem) q k (A .fronts q k (rw free (rw (first-front o (w .mem .inForce q)) at y)))))
           by (no h) = rw (upd-other (w .lane) q l r h) (λ y. owed-counts T T′ C (w .mem) r k (A .fronts r k y))
 
       draws′ : (r : ℕ) → Drawn G oldLink T′ (w .mem) r
-      draws′ r = record { n = d .n; small = ⊎-elim (λ (h : 2 ^ w .mem .drawn r ≤ d .n + 1). inl h) (λ (h : (2 ^ w .mem .drawn r ≤ d .n + 2) × (T .procs r ≡ 1)). inr (h .0, C .procs r (h .1))) (d .small); owed = λ k y. owed-counts T T′ C (w .mem) r k (d .owed k y) }
+      draws′ r = record {
+        n = d .n;
+        small =
+            ⊎-elim (λ (h : 2 ^ w .mem .drawn r ≤ d .n + 1). inl h)
+            (λ (h : (2 ^ w .mem .drawn r ≤ d .n + 2) × (T .procs r ≡ 1)). inr (h .0, C .procs r (h .1))) (d .small);
+        owed = λ k y. owed-counts T T′ C (w .mem) r k (d .owed k y);
+      }
         where
           d : Drawn G oldLink T (w .mem) r
           d = A .draws r
 
-pub opened-acc : (G : Grid) (oldLink : ℕ → Link) (readings : ℕ → ℕ) (marks : ℕ → ℕ → ℕ) → Account G oldLink (record { cells = λ i. 0; procs = λ q. 0 }) (opened readings oldLink marks)
+pub opened-acc : (G : Grid) (oldLink : ℕ → Link) (readings : ℕ → ℕ) (marks : ℕ → ℕ → ℕ)
+    → Account G oldLink (record { cells = λ i. 0; procs = λ q. 0 }) (opened readings oldLink marks)
 unfolding opened
-opened-acc G oldLink readings marks = record { begun = λ q o i g h. absurd (let y : _≡_ {A = ℕ} 0 1 = cc in omega arith); fronts = λ q k h. absurd (let y : ⊥ = omega arith in y); draws = λ q. record { n = 0; small = inl (omega arith); owed = λ k h. absurd (let y : ⊥ = omega arith in y) }; wrote = λ j hj t. absurd (t refl) }
+opened-acc G oldLink readings marks = record {
+  begun = λ q o i g h. absurd (let y : _≡_ {A = ℕ} 0 1 = cc in omega arith);
+  fronts = λ q k h. absurd (let y : ⊥ = omega arith in y);
+  draws = λ q. record { n = 0; small = inl (omega arith); owed = λ k h. absurd (let y : ⊥ = omega arith in y) };
+  wrote = λ j hj t. absurd (t refl);
+}

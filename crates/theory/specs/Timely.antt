@@ -2,22 +2,21 @@
 -- Assumes nothing.
 use mathlib.Core.Path.{_≡_, refl, sym, ap, _∙_, subst}
 use mathlib.Core.Logic.{_≢_}
-use mathlib.Core.Bool.{Bool}
-use Prim.Native.Nat.{ℕ, zero, suc, _+_, _≤_, _<_}
+use Prim.Native.Nat.{ℕ, suc, _+_, _≤_, _<_}
 use native.Mathlib.Decide.{ℕ-discrete}
 use native.Mathlib.Omega.{arith}
 use Rattle.theory.specs.Base.{upd, upd-same, upd-other}
-use Rattle.theory.specs.Array.{Op, read, asked, write}
-use Rattle.theory.specs.Segments
-use Rattle.theory.specs.Machine.{Grid, Link, Stage, Lane, busy, Mem, Change, keep, setReading, setLink, setInForce, setDrawn, setMark, Next, go, end, poke, takeTurn, Watch, firstStage, nextLane, started, stepped}
+use Rattle.theory.specs.Array.{Op, read, asked, write, Writing}
+use Rattle.theory.specs.Machine.{Grid, Link, Marking, Stage, marking, Lane, busy, Mem, Change, keep, setReading, setLink, setInForce}
+use Rattle.theory.specs.Machine.{setDrawn, setMark, Next, go, end, poke, takeTurn, Watch, firstStage, nextLane, started, stepped}
 use Rattle.theory.specs.Words.{Words}
 use Rattle.theory.specs.World.{World}
-use Rattle.theory.specs.Claims.{Mine, mine-writes}
+use Rattle.theory.specs.Claims.{mine-writes}
 use Rattle.theory.specs.Inv.{StageOk, Inv}
 use Rattle.theory.specs.Steps.{busyOk}
 use Rattle.theory.specs.Layout.{Layout}
 use Rattle.theory.specs.Ticks
-use Rattle.theory.specs.Ticks.{TickOk, NxTick}
+use Rattle.theory.specs.Ticks.{TickIn, TickOk, NxTick}
 
 poke-inForce : (M : Mem) (q r : ℕ) (c : Change) → r ≢ q → poke M q c .inForce r ≡ M .inForce r
 poke-inForce M q r keep ne = refl
@@ -52,55 +51,51 @@ module _ (G : Grid) where
       l = busy o i (firstStage o)
 
       by : Dec (r ≡ q) → TickOk G (w .mem .inForce r) (w .mem .drawn r) r o₁ g₁ (upd taken q 0 r)
-      by (yes h) = let u : busy o i (firstStage o) ≡ busy o₁ i₁ g₁ = sym (upd-same (w .lane) q l) ∙ ap (upd (w .lane) q l) (sym h) ∙ k in let ho : o ≡ o₁ = cc in let hg : firstStage o ≡ g₁ = cc in
-          subst (λ (x : ℕ). TickOk G (w .mem .inForce r) (w .mem .drawn r) r o₁ g₁ x) (sym (ap (upd taken q 0) h ∙ upd-same taken q 0)) (subst (λ (x : Op). TickOk G (w .mem .inForce r) (w .mem .drawn r) r x g₁ 0) ho (subst (λ (x : Stage). TickOk G (w .mem .inForce r) (w .mem .drawn r) r o x 0) hg (first-tick (w .mem .inForce r) (w .mem .drawn r) r o)))
+      by (yes h) = let u : busy o i (firstStage o) ≡ busy o₁ i₁ g₁ = sym (upd-same (w .lane) q l) ∙ ap (upd (w .lane) q l) (sym h) ∙ k in
+          let ho : o ≡ o₁ = cc in
+          let hg : firstStage o ≡ g₁ = cc in
+          subst (λ (x : ℕ). TickOk G (w .mem .inForce r) (w .mem .drawn r) r o₁ g₁ x) (sym (ap (upd taken q 0) h ∙ upd-same taken q 0))
+          (subst (λ (x : Op). TickOk G (w .mem .inForce r) (w .mem .drawn r) r x g₁ 0) ho
+          (subst (λ (x : Stage). TickOk G (w .mem .inForce r) (w .mem .drawn r) r o x 0) hg (first-tick (w .mem .inForce r) (w .mem .drawn r) r o)))
       by (no h) = rw (upd-other taken q 0 r h) (T r o₁ i₁ g₁ (sym (upd-other (w .lane) q l r h) ∙ k))
 
 module _ {G : Grid} {oldLink : ℕ → Link} {W : World} (I : Inv G oldLink W) {P : Words} {own : ℕ → Link} (Y : Layout G W P own) where
-  -- once a segment is entered the next place's segment is drawn too
-  two-places : (q : ℕ) (o : Op) (i : ℕ) (g : Stage) → W .w .lane q ≡ busy o i g → (s : Bool) (L : Link) (n : ℕ) → g ≡ Stage.enter s L n → G .shape .seg (suc n) < W .w .mem .drawn q
-  two-places q o i g e s L n z = by n e′ (busyOk I q e′ .at .0 .high)
-    where
-      e′ : W .w .lane q ≡ busy o i (Stage.enter s L n)
-      e′ = e ∙ ap (busy o i) z
-
-      by : (n : ℕ) → W .w .lane q ≡ busy o i (Stage.enter s L n) → n ≤ W .used q → G .shape .seg (suc n) < W .w .mem .drawn q
-      by zero k h = omega (arith, Segments.seg-first (G .shape), Segments.seg-second (G .shape), Y .stages q o i (Stage.enter s L 0) k .0)
-      by (suc n) k h = let u : G .shape .seg n < G .shape .seg (suc n) = rw k at (Y .cover q n (omega arith)) in omega (arith, Segments.seg-double (G .shape) n u, Y .stages q o i (Stage.enter s L (suc n)) k .0)
+  abbrev after : ℕ → Op → ℕ → Stage → Mem
+  after q o i g = poke (W .w .mem) q (takeTurn G (W .w .mem) q o i g .change)
 
   -- one step of q, counted
-  pub ticked : (taken : ℕ → ℕ) → Timely G (W .w) taken → (q : ℕ) (o : Op) (i : ℕ) (g : Stage) → W .w .lane q ≡ busy o i g
-      → NxTick G (poke (W .w .mem) q (takeTurn G (W .w .mem) q o i g .change) .inForce q) (poke (W .w .mem) q (takeTurn G (W .w .mem) q o i g .change) .drawn q) q o (takeTurn G (W .w .mem) q o i g .next) (suc (taken q))
-  unfolding Timely
-  ticked taken T q o i g e = Ticks.tick G I q o i g e (taken q) (two-places q o i g e) (T q o i g e)
-
-  pub timely-step : (taken : ℕ → ℕ) → Timely G (W .w) taken → (q : ℕ) (o : Op) (i : ℕ) (g : Stage) → W .w .lane q ≡ busy o i g → Timely G (stepped (W .w) q o i (takeTurn G (W .w .mem) q o i g)) (upd taken q (suc (taken q)))
+  pub timely-step : (taken : ℕ → ℕ) → Timely G (W .w) taken → (q : ℕ) (o : Op) (i : ℕ) (g : Stage) → W .w .lane q ≡ busy o i g
+      → Timely G (stepped (W .w) q o i (takeTurn G (W .w .mem) q o i g)) (upd taken q (suc (taken q)))
   unfolding Timely
   timely-step taken T q o i g e r o₁ i₁ g₁ k = by (ℕ-discrete r q)
     where
       nx : Next
       nx = takeTurn G (W .w .mem) q o i g .next
 
-      c : ℕ
-      c = poke (W .w .mem) q (takeTurn G (W .w .mem) q o i g .change) .inForce q
+      M : Mem
+      M = after q o i g
 
-      d : ℕ
-      d = poke (W .w .mem) q (takeTurn G (W .w .mem) q o i g .change) .drawn q
-
-      here : NxTick G c d q o nx (suc (taken q))
-      here = ticked taken T q o i g e
-
-      which : (n : Next) (t : ℕ) → nextLane o i n ≡ busy o₁ i₁ g₁ → NxTick G c d q o n t → TickOk G c d q o₁ g₁ t
-      which (go g₂) t h y = let ho : o ≡ o₁ = cc in let hg : g₂ ≡ g₁ = cc in subst (λ (x : Op). TickOk G c d q x g₁ t) ho (subst (λ (x : Stage). TickOk G c d q o x t) hg y)
+      which : (n : Next) (t : ℕ) → nextLane o i n ≡ busy o₁ i₁ g₁ → NxTick G (M .inForce q) (M .drawn q) q o n t
+          → TickOk G (M .inForce q) (M .drawn q) q o₁ g₁ t
+      which (go g₂) t h y = let ho : o ≡ o₁ = cc in
+          let hg : g₂ ≡ g₁ = cc in
+          subst (λ (x : Op). TickOk G (M .inForce q) (M .drawn q) q x g₁ t) ho (subst (λ (x : Stage). TickOk G (M .inForce q) (M .drawn q) q o x t) hg y)
       which (end a) t h y = absurd (let z : _≡_ {A = ℕ} 0 1 = cc in omega arith)
 
-      by : Dec (r ≡ q) → TickOk G (poke (W .w .mem) q (takeTurn G (W .w .mem) q o i g .change) .inForce r) (poke (W .w .mem) q (takeTurn G (W .w .mem) q o i g .change) .drawn r) r o₁ g₁ (upd taken q (suc (taken q)) r)
-      by (yes h) = subst (λ (x : ℕ). TickOk G (poke (W .w .mem) q (takeTurn G (W .w .mem) q o i g .change) .inForce x) (poke (W .w .mem) q (takeTurn G (W .w .mem) q o i g .change) .drawn x) x o₁ g₁ (upd taken q (suc (taken q)) x)) (sym h)
-          (subst (λ (x : ℕ). TickOk G c d q o₁ g₁ x) (sym (upd-same taken q (suc (taken q)))) (which nx (suc (taken q)) (sym (upd-same (W .w .lane) q (nextLane o i nx)) ∙ ap (upd (W .w .lane) q (nextLane o i nx)) (sym h) ∙ k) here))
-      by (no h) = rw (poke-inForce (W .w .mem) q r (takeTurn G (W .w .mem) q o i g .change) h, poke-drawn (W .w .mem) q r (takeTurn G (W .w .mem) q o i g .change) h, upd-other taken q (suc (taken q)) r h) (T r o₁ i₁ g₁ (sym (upd-other (W .w .lane) q (nextLane o i nx) r h) ∙ k))
+      mine : upd (W .w .lane) q (nextLane o i nx) q ≡ busy o₁ i₁ g₁ → TickOk G (M .inForce q) (M .drawn q) q o₁ g₁ (upd taken q (suc (taken q)) q)
+      mine h = rw (upd-same taken q (suc (taken q)))
+          (which nx (suc (taken q)) (sym (upd-same (W .w .lane) q (nextLane o i nx)) ∙ h) (Ticks.tick I Y q o i g e (taken q) (T q o i g e)))
+
+      by : Dec (r ≡ q) → TickOk G (M .inForce r) (M .drawn r) r o₁ g₁ (upd taken q (suc (taken q)) r)
+      by (yes h) = subst (λ (x : ℕ). TickOk G (M .inForce x) (M .drawn x) x o₁ g₁ (upd taken q (suc (taken q)) x)) (sym h)
+          (mine (ap (upd (W .w .lane) q (nextLane o i nx)) (sym h) ∙ k))
+      by (no h) = let u = takeTurn G (W .w .mem) q o i g .change in
+          rw (poke-inForce (W .w .mem) q r u h, poke-drawn (W .w .mem) q r u h, upd-other taken q (suc (taken q)) r h)
+          (T r o₁ i₁ g₁ (sym (upd-other (W .w .lane) q (nextLane o i nx) r h) ∙ k))
 
   -- an operation under way has taken fewer steps of its own than its bound
-  pub tick-bound : (q : ℕ) (o : Op) (i : ℕ) (g : Stage) → W .w .lane q ≡ busy o i g → (t : ℕ) → TickOk G (W .w .mem .inForce q) (W .w .mem .drawn q) q o g t → t < Ticks.bound o
+  pub tick-bound : (q : ℕ) (o : Op) (i : ℕ) (g : Stage) → W .w .lane q ≡ busy o i g → (t : ℕ)
+      → TickOk G (W .w .mem .inForce q) (W .w .mem .drawn q) q o g t → t < Ticks.bound o
   tick-bound q o i g e t h = by g (busyOk I q e .at) h
     where
       small : (o : Op) → Ticks.late o + 3 < Ticks.bound o
@@ -108,25 +103,25 @@ module _ {G : Grid} {oldLink : ℕ → Link} {W : World} (I : Inv G oldLink W) {
       small asked = omega arith
       small (write v) = omega arith
 
-      late-le : (o : Op) → Ticks.late o ≤ 1
-      late-le read = omega arith
-      late-le asked = omega arith
-      late-le (write v) = omega arith
+      marked : (k : Marking) → TickIn G (W .w .mem .drawn q) q o k t → t ≤ Ticks.late o + 9
+      marked (Marking.draw s S n) h = omega (arith, h .1)
+      marked (Marking.enter s S n) h = omega (arith, h .1)
+      marked (Marking.tombstone S n) h = omega (arith, h .0)
+      marked (Marking.mark S n) h = omega arith
+      marked (Marking.force S n) h = omega arith
+      marked (Marking.swap S n) h = omega arith
+      marked (Marking.takeBack n) h = h
 
-      eleven : Mine G oldLink W q o i → Ticks.bound o ≡ 11
-      eleven k = Ticks.is-eleven G o (mine-writes G oldLink W q o i k)
+      rest : (o : Op) → Writing o → Ticks.late o + 9 < Ticks.bound o
+      rest read w = absurd w
+      rest asked w = absurd w
+      rest (write v) w = omega arith
 
       by : (g : Stage) → StageOk G oldLink W q o i g → TickOk G (W .w .mem .inForce q) (W .w .mem .drawn q) q o g t → t < Ticks.bound o
       by Stage.store b h = omega (arith, small o)
       by Stage.checkLink b h = omega (arith, small o)
-      by (Stage.checkMarks L) b h = omega (arith, small o)
-      by (Stage.checkDirectory L) b h = omega (arith, small o, h .0)
-      by (Stage.checkMark L) b h = omega (arith, small o, h .0)
+      by (Stage.checkMarks S) b h = omega (arith, small o)
+      by (Stage.checkDirectory S) b h = omega (arith, small o, h .0)
+      by (Stage.checkMark S) b h = omega (arith, small o, h .0)
       by Stage.fetch b h = rw (b .0) (omega arith)
-      by (Stage.draw s L n) b h = omega (arith, late-le o, eleven (b .0 .wrote), h .1)
-      by (Stage.enter s L n) b h = omega (arith, late-le o, eleven (b .0 .wrote), h .1)
-      by (Stage.tombstone L n) b h = omega (arith, late-le o, eleven (b .0 .wrote), h .0)
-      by (Stage.mark L n) b h = omega (arith, late-le o, eleven (b .0 .wrote))
-      by (Stage.force L n) b h = omega (arith, late-le o, eleven (b .0 .wrote))
-      by (Stage.swap L n) b h = omega (arith, late-le o, eleven (b .0 .wrote))
-      by (Stage.takeBack n) b h = omega (arith, late-le o, eleven (b .0))
+      by (marking k) b h = omega (arith, marked k h, rest o (mine-writes G oldLink W q o i (b .0)))

@@ -6,10 +6,11 @@ use native.Mathlib.Omega.{arith}
 use Rattle.theory.specs.Base.{pick}
 use Rattle.theory.specs.Array.{Op}
 use Rattle.theory.specs.Segments.{pow-pos}
-use Rattle.theory.specs.Machine.{Grid, Link, mk, Stage, busy, keep, setLink, go, turnTo, sameLink, passed, takeTurn, Watch, stepped}
-use Rattle.theory.specs.Words.{Words, wordsAfter}
+use Rattle.theory.specs.Machine.{Grid, Link, mk, Marking, Stage, marking, busy}
+use Rattle.theory.specs.Machine.{keep, setLink, go, turnTo, sameLink, passed, markTurn, takeTurn, Watch, stepped}
+use Rattle.theory.specs.Words.{Words, wordsMarked, wordsAfter}
 use Rattle.theory.specs.World.{World}
-use Rattle.theory.specs.Inv.{BusyOk, Inv}
+use Rattle.theory.specs.Inv.{Inv}
 use Rattle.theory.specs.Steps.{busyOk}
 use Rattle.theory.specs.Sum.{sum, sum-upd}
 use Rattle.theory.specs.Count.{handed}
@@ -19,32 +20,36 @@ module _ (G : Grid) where
   unfoldable pub Sums : Watch → Words → Type 0
   Sums w P = P .top ≡ sum (λ r. handed (w .mem .drawn r)) (G .p)
 
-module _ {G : Grid} {oldLink : ℕ → Link} {W : World} (I : Inv G oldLink W) {P : Words} {own : ℕ → Link} (Y : Layout G W P own) (T : Sums G (W .w) P) where
-  pub sums-step : (q : ℕ) (o : Op) (i : ℕ) (g : Stage) → W .w .lane q ≡ busy o i g → Sums G (stepped (W .w) q o i (takeTurn G (W .w .mem) q o i g)) (wordsAfter G P q i g)
+module _ {G : Grid} {oldLink : ℕ → Link} {W : World} (I : Inv G oldLink W) {P : Words} {own : ℕ → Link} (Y : Layout G W P own) (T : Sums G (W .w) P)
+    (q : ℕ) (o : Op) (i : ℕ) where
+  sums-marking : (k : Marking) → W .w .lane q ≡ busy o i (marking k) → Sums G (stepped (W .w) q o i (markTurn G (W .w .mem) q o i k)) (wordsMarked G P q i k)
   unfolding Sums
-  sums-step q o i Stage.store e = T
-  sums-step q o i Stage.checkLink e = T
-  sums-step q o i (Stage.checkMarks L) e = T
-  sums-step q o i (Stage.checkDirectory L) e = T
-  sums-step q o i (Stage.checkMark L) e = T
-  sums-step q o i Stage.fetch e = T
-  sums-step q o i (Stage.draw s L n) e = omega (arith, T, sum-upd (λ x. handed x) (W .w .mem .drawn) q (suc (G .shape .seg n)) (G .p) (b .proc), power, ap (λ (x : ℕ). handed x) st)
+  sums-marking (Marking.draw s S n) e =
+      omega (arith, T, sum-upd (λ x. handed x) (W .w .mem .drawn) q (suc (G .shape .seg n)) (G .p) (busyOk I q e .proc), power, ap (λ (x : ℕ). handed x) st)
     where
-      b : BusyOk G oldLink W q o i (Stage.draw s L n)
-      b = busyOk I q e
-
       st : G .shape .seg n ≡ W .w .mem .drawn q
-      st = Y .stages q o i (Stage.draw s L n) e
+      st = Y .stages q o i (marking (Marking.draw s S n)) e
 
       power : handed (suc (G .shape .seg n)) ≡ handed (G .shape .seg n) + 2 ^ suc (G .shape .seg n)
       power = omega (arith, pow-pos (G .shape .seg n))
-  sums-step q o i (Stage.enter s L n) e = T
-  sums-step q o i (Stage.tombstone L n) e = T
-  sums-step q o i (Stage.mark L n) e = T
-  sums-step q o i (Stage.force L n) e = T
-  sums-step q o i (Stage.swap L n) e = by (sameLink (W .w .mem .link i) L)
+  sums-marking (Marking.enter s S n) e = T
+  sums-marking (Marking.tombstone S n) e = T
+  sums-marking (Marking.mark S n) e = T
+  sums-marking (Marking.force S n) e = T
+  sums-marking (Marking.swap S n) e = by (sameLink (W .w .mem .link i) (S .at))
     where
-      by : (z : Dec (W .w .mem .link i ≡ L)) → Sums G (stepped (W .w) q o i (pick z (turnTo (setLink i (mk q n)) (passed o)) (turnTo keep (go (Stage.takeBack n))))) P
+      by : (z : Dec (W .w .mem .link i ≡ S .at))
+          → Sums G (stepped (W .w) q o i (pick z (turnTo (setLink i (mk q n)) (passed o)) (turnTo keep (go (marking (Marking.takeBack n)))))) P
       by (yes k) = T
       by (no k) = T
-  sums-step q o i (Stage.takeBack n) e = T
+  sums-marking (Marking.takeBack n) e = T
+
+  pub sums-step : (g : Stage) → W .w .lane q ≡ busy o i g → Sums G (stepped (W .w) q o i (takeTurn G (W .w .mem) q o i g)) (wordsAfter G P q i g)
+  unfolding Sums
+  sums-step Stage.store e = T
+  sums-step Stage.checkLink e = T
+  sums-step (Stage.checkMarks S) e = T
+  sums-step (Stage.checkDirectory S) e = T
+  sums-step (Stage.checkMark S) e = T
+  sums-step Stage.fetch e = T
+  sums-step (marking k) e = sums-marking k e

@@ -28,7 +28,14 @@ bounds (suc n) = by (ℕ-discrete (n + 3) (2 ^ suc (suc (segTrial n)))) (bounds 
     by (no k) h = (omega arith, omega arith)
 
 trialShape : Shape
-trialShape = record { seg = segTrial; off = λ n. n + 2 - 2 ^ suc (segTrial n); segments = 17; low = λ n. bounds n .0; high = λ n. bounds n .1; at = λ n. omega (arith, bounds n) }
+trialShape = record {
+  seg = segTrial;
+  off = λ n. n + 2 - 2 ^ suc (segTrial n);
+  segments = 17;
+  low = λ n. bounds n .0;
+  high = λ n. bounds n .1;
+  at = λ n. omega (arith, bounds n);
+}
 
 trialGrid : ℕ → Grid
 trialGrid p = record { p = p; m = 2; f = λ i. 7; code = λ i. i; grave = 4294967295; shape = trialShape }
@@ -49,7 +56,8 @@ writes : ℕ → ℕ → ℕ → ℕ → List Call
 writes q v i n = begin q (write v) i ∷ replicate n (step q)
 
 -- 5. p 1: the first write of cell 0 takes 9 steps, leaves link (0, 1), 2 marks in force. 6. Then a write of cell 1 takes 10.
-example-5 : (R : Run) → R ≡ afterCalls (trialGrid 1) filled (writes 0 9 0 9) → (R .watch .lane 0 ≡ idle) × (R .watch .mem .link 0 ≡ mk 0 1) × (R .watch .mem .inForce 0 ≡ 2) × (R .taken 0 ≡ 9)
+example-5 : (R : Run) → R ≡ afterCalls (trialGrid 1) filled (writes 0 9 0 9)
+    → (R .watch .lane 0 ≡ idle) × (R .watch .mem .link 0 ≡ mk 0 1) × (R .watch .mem .inForce 0 ≡ 2) × (R .taken 0 ≡ 9)
 unfolding trialGrid trialShape openedOver filled writes segTrial afterCalls opened upd ℕ-discrete decLt decLe sameLink
 example-5 R e = rw e (refl, refl, refl, refl)
 

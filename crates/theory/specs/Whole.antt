@@ -14,7 +14,7 @@ use Rattle.theory.specs.Run.{Call, begin, step, Run, passRun, beginRun, 
 use Rattle.theory.specs.Standing.{usedNext}
 use Rattle.theory.specs.World.{World}
 use Rattle.theory.specs.Inv.{Inv}
-use Rattle.theory.specs.Steps.{Kept}
+use Rattle.theory.specs.Steps.{Kept, KeptAt}
 use Rattle.theory.specs.ByStage.{by-stage}
 use Rattle.theory.specs.Rest.{rest-inv}
 use Rattle.theory.specs.Begin.{start-inv, opened-inv}
@@ -52,7 +52,12 @@ module _ {G : Grid} (A : Lawful G) {R : Run} (H : Whole G R) where
   -- time passes, and what is written down for processes with no operation under way may change
   pub whole-rest : (now : ℕ) (since taken : ℕ → ℕ) → R .watch .now ≤ now
       → ((r : ℕ) (o : Op) (i : ℕ) (g : Stage) → R .watch .lane r ≡ busy o i g → (since r ≡ R .watch .since r) × (taken r ≡ R .taken r))
-      → Whole G (record { watch = record { mem = R .watch .mem; lane = R .watch .lane; now = now; since = since; ended = R .watch .ended }; words = R .words; tally = R .tally; taken = taken })
+      → Whole G (record {
+        watch = record { mem = R .watch .mem; lane = R .watch .lane; now = now; since = since; ended = R .watch .ended };
+        words = R .words;
+        tally = R .tally;
+        taken = taken;
+      })
   unfolding Sums Timely
   whole-rest now since taken le same = record {
     oldLink = H .oldLink;
@@ -103,10 +108,13 @@ module _ {G : Grid} (A : Lawful G) {R : Run} (H : Whole G R) where
     timely = timely-step (H .inv) (H .layout) (R .taken) (H .timely) q o i g e;
   }
     where
-      k : Kept G (H .oldLink) (worldOf H) q o i (takeTurn G (R .watch .mem) q o i g) (usedNext (H .used) q g)
+      k : KeptAt G (H .oldLink) (worldOf H) q o i g
       k = by-stage A (H .inv) q o i g e
 
-      y : (own′ : ℕ → Link) × Layout G (record { w = stepped (R .watch) q o i (takeTurn G (R .watch .mem) q o i g); log = k .0; used = usedNext (H .used) q g }) (wordsAfter G (R .words) q i g) own′
+      next : World
+      next = record { w = stepped (R .watch) q o i (takeTurn G (R .watch .mem) q o i g); log = k .0; used = usedNext (H .used) q g }
+
+      y : (own′ : ℕ → Link) × Layout G next (wordsAfter G (R .words) q i g) own′
       y = lay-stage (H .inv) (H .layout) q o i g e (k .0)
 
   pub whole-call : (c : Call) → Whole G (afterCall G R c)
@@ -131,7 +139,8 @@ unfolding afterCalls
 whole-run A H [] = H
 whole-run A H (c ∷ cs) = whole-run A (whole-call A H c) cs
 
-pub whole-opened : (G : Grid) (readings : ℕ → ℕ) (links : ℕ → Link) (marks directory : ℕ → ℕ → ℕ) (pool held : ℕ → ℕ) → Whole G (openedRun readings links marks directory pool held)
+pub whole-opened : (G : Grid) (readings : ℕ → ℕ) (links : ℕ → Link) (marks directory : ℕ → ℕ → ℕ) (pool held : ℕ → ℕ)
+    → Whole G (openedRun readings links marks directory pool held)
 unfolding opened Sums Timely
 whole-opened G readings links marks directory pool held = record {
   oldLink = links;
@@ -139,7 +148,12 @@ whole-opened G readings links marks directory pool held = record {
   used = λ q. 0;
   owner = λ x. mk 0 0;
   inv = opened-inv G readings links marks;
-  layout = record { marks = λ r n hr h. absurd (let y : ⊥ = omega arith in y); cover = λ r n h. absurd (let y : ⊥ = omega arith in y); owned = λ r s hr h. absurd (let y : ⊥ = omega arith in y); stages = λ r o i g k. absurd (let y : _≡_ {A = ℕ} 0 1 = cc in omega arith) };
+  layout = record {
+    marks = λ r n hr h. absurd (let y : ⊥ = omega arith in y);
+    cover = λ r n h. absurd (let y : ⊥ = omega arith in y);
+    owned = λ r s hr h. absurd (let y : ⊥ = omega arith in y);
+    stages = λ r o i g k. absurd (let y : _≡_ {A = ℕ} 0 1 = cc in omega arith);
+  };
   account = Tallies.opened-acc G links readings marks;
   ones = ((λ i. omega arith), (λ q. omega arith));
   few = λ q. omega arith;

@@ -3,18 +3,21 @@ ghost use mathlib.Core.Path.{_≡_};
 ghost use mathlib.Core.Bool.{true};
 ghost use Rattle.lanes.specs.Ranges.{laneFits, sizesFit};
 ghost use Rattle.steps.specs.Memory.{memory};
+ghost use Rattle.steps.specs.Inner.{handed};
 ghost use Rattle.steps.specs.Steps.{goes, readTurn, askedTurn, turnOf};
 
 mod write;
 
+use lanes::Check;
 use lanes::Lane;
 use lanes::Op;
 use numbers::Cell;
+use numbers::Mark;
 use numbers::Process;
+use numbers::Terms;
 use steps::Change;
 use steps::Found;
 use steps::Next;
-use steps::Sizes;
 use steps::Turn;
 use steps::look;
 
@@ -24,16 +27,13 @@ fn goes(o: Op) -> Turn
     Turn::Turned(Change::Nothing, Next::Going(o))
 }
 
-fn read_turn(first: u32, step: u32, i: Cell, found: Found) -> Turn
-    ensures { λ r. ⌜ r ≡ readTurn first step i found ⌝ }
+fn read_turn(z: Terms, i: Cell, found: Found) -> Turn
+    ensures { λ r. ⌜ r ≡ readTurn z i found ⌝ }
 {
     match found {
         Found::Outside => Turn::Outside,
         Found::On(c) => goes(Op::Read(i, c)),
-        Found::NotWritten(_) => Turn::Turned(
-            Change::Nothing,
-            steps::not_written_read(first, step, i),
-        ),
+        Found::NotWritten(_) => Turn::Turned(Change::Nothing, steps::not_written_read(z, i)),
         Found::Written => goes(Op::Reading(i)),
     }
 }
@@ -51,30 +51,39 @@ fn asked_turn(i: Cell, found: Found) -> Turn
 
 // One step of process q, whose lane is l. `seen` is the marks in force that (b) reads: those of the process that the link names.
 pub fn turn_of(
-    z: Sizes,
+    z: Terms,
+    top: u32,
     q: Process,
     l: Lane,
     seen: u32,
     readings: &[u32],
     links: &[u64],
     directory: &[u32],
-    pool: &[u32],
+    pool: &[Mark],
 ) -> Turn
-    requires { ⌜ (sizesFit (z .p) (z .m) (z .top) ≡ true) × (laneFits (z .p) (z .m) l ≡ true) ⌝ }
-    ensures { λ r. ⌜ r ≡ turnOf z (q .0) l seen (memory (now (readings .entry)) (now (links .entry)) (now (directory .entry)) (now (pool .entry))) ⌝ }
+    requires { ⌜ (sizesFit z top ≡ true) × (laneFits z l ≡ true) ⌝ }
+    ensures { λ r. ⌜ r ≡ turnOf z top (q .0) l (handed seen) (memory (now (readings .entry)) (now (links .entry)) (now (directory .entry)) (now (pool .entry))) ⌝ }
 {
     let o = l.op;
     match o {
         Op::Idle => Turn::Outside,
         Op::Read(i, c) => {
-            let found = look::check(z.p, seen, links, directory, pool, i, c);
-            read_turn(z.first, z.step, i, found)
+            let found = look::check(z, seen, links, directory, pool, i, c);
+            read_turn(z, i, found)
         }
-        Op::Reading(i) => Turn::Turned(Change::Nothing, steps::written_read(readings, i)),
+        Op::Reading(i) => Turn::Turned(Change::Nothing, steps::written_read(z, readings, i)),
         Op::Asked(i, c) => {
-            let found = look::check(z.p, seen, links, directory, pool, i, c);
+            let found = look::check(z, seen, links, directory, pool, i, c);
             asked_turn(i, found)
         }
-        Op::Write(i, t) => write::write_turn(z, q, l, seen, links, directory, pool, i, t),
+        Op::Store(i, v) => Turn::Turned(
+            Change::Reading(numbers::index_of(z, i), v),
+            Next::Going(Op::Write(i, Check::Link)),
+        ),
+        Op::Write(i, c) => {
+            let found = look::check(z, seen, links, directory, pool, i, c);
+            write::checked_turn(q, l, i, found)
+        }
+        Op::Marking(i, k) => write::marking_turn(z, top, q, l, links, directory, pool, i, k),
     }
 }

@@ -11,6 +11,9 @@ beginning-requires c κs = search needs
 ask-of-requires : tie.Need-ask-of-requires
 ask-of-requires c κs = search needs
 
+op-of-requires : tie.Need-op-of-requires
+op-of-requires c κs = search needs
+
 begun-requires : tie.Need-begun-requires
 begun-requires c κs = search needs
 
@@ -41,6 +44,7 @@ entry-spec =
     (tie.spec
     beginning-requires
     ask-of-requires
+    op-of-requires
     begun-requires
     returns
     act-requires

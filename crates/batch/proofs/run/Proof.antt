@@ -11,10 +11,11 @@ use Rattle.batch.proofs.run.Statement.{statement}
 use Rattle.batch.proofs.run.Tie as tie
 
 abbrev Inv-loop : tie.InvT-loop
-Inv-loop kinds processes cells values answers₀ readings₀ links₀ directory₀ pool₀ t₀ fits n i₀ answers readings links directory pool t i = Going kinds processes cells values answers₀ readings₀ links₀ directory₀ pool₀ t₀ fits n answers readings links directory pool t i
+Inv-loop s kinds processes cells values answers₀ readings₀ links₀ directory₀ pool₀ t₀ fits n i₀ answers readings links directory pool t i =
+    Going kinds processes cells values answers₀ readings₀ links₀ directory₀ pool₀ s fits n answers readings links directory pool t i
 
 abbrev μ-loop : tie.MeasureT-loop
-μ-loop kinds processes cells values answers₀ readings₀ links₀ directory₀ pool₀ t₀ fits n i₀ answers readings links directory pool t i = n - i
+μ-loop s kinds processes cells values answers₀ readings₀ links₀ directory₀ pool₀ t₀ fits n i₀ answers readings links directory pool t i = n - i
 
 state-fits-requires : tie.Need-state-fits-requires Inv-loop μ-loop
 state-fits-requires c κs = search needs
@@ -33,14 +34,18 @@ least-requires-4 c κs = search needs
 
 loop-holds : tie.Need-loop-holds Inv-loop μ-loop
 loop-holds c =
-    let a = c .before .before .before .before .before .before .before .before .before .before .before .before .before .before .args in
-    going-start (a .kinds .now) (a .processes .now) (a .cells .now) (a .values .now) (a .answers .now) _ _ _ _ (a .s) _ _ (entries-are (a .kinds .now) (a .processes .now) (a .cells .now) (a .values .now) (a .answers .now) _ _ _ _ (c .before .before .before .least .ensures) (c .before .before .least2 .ensures) (c .before .least3 .ensures) (c .least4 .ensures)) (c .before .before .before .before .state-fits .ensures)
+    let first = c .before .before .before .before .before .before .before .before in
+    let a = first .before .before .before .before .before .before .args in
+    going-start (a .kinds .now) (a .processes .now) (a .cells .now) (a .values .now) (a .answers .now) _ _ _ _ (a .s) _ _
+    (entries-are (a .kinds .now) (a .processes .now) (a .cells .now) (a .values .now) (a .answers .now) _ _ _ _ (c .before .before .before .least .ensures)
+    (c .before .before .least2 .ensures) (c .before .least3 .ensures) (c .least4 .ensures))
+    (c .before .before .before .before .state-fits .ensures)
 
-mul-t34 : tie.Need-mul-t34 Inv-loop μ-loop
-mul-t34 c = omega arith
+mul-who : tie.Need-mul-who Inv-loop μ-loop
+mul-who c = omega arith
 
-shared-slice-read-t36 : tie.Need-shared-slice-read-t36 Inv-loop μ-loop
-shared-slice-read-t36 c = omega arith
+shared-slice-read-who : tie.Need-shared-slice-read-who Inv-loop μ-loop
+shared-slice-read-who c = omega arith
 
 lane-of-requires : tie.Need-lane-of-requires Inv-loop μ-loop
 lane-of-requires c κs = search needs
@@ -63,72 +68,109 @@ mul-other c = omega arith
 element-copy-out-other : tie.Need-element-copy-out-other Inv-loop μ-loop
 element-copy-out-other c = omega arith
 
-shared-slice-read-entry : tie.Need-shared-slice-read-entry Inv-loop μ-loop
-shared-slice-read-entry c = omega arith
+shared-slice-read-kind : tie.Need-shared-slice-read-kind Inv-loop μ-loop
+shared-slice-read-kind c = omega arith
 
-mul-t34-2 : tie.Need-mul-t34-2 Inv-loop μ-loop
-mul-t34-2 c = omega arith
+mul-cell : tie.Need-mul-cell Inv-loop μ-loop
+mul-cell c = omega arith
 
-shared-slice-read-t46 : tie.Need-shared-slice-read-t46 Inv-loop μ-loop
-shared-slice-read-t46 c = omega arith
+shared-slice-read-cell : tie.Need-shared-slice-read-cell Inv-loop μ-loop
+shared-slice-read-cell c = omega arith
 
-mul-entry : tie.Need-mul-entry Inv-loop μ-loop
-mul-entry c = omega arith
+mul-value : tie.Need-mul-value Inv-loop μ-loop
+mul-value c = omega arith
 
-shared-slice-read-entry-2 : tie.Need-shared-slice-read-entry-2 Inv-loop μ-loop
-shared-slice-read-entry-2 c = omega arith
+shared-slice-read-value : tie.Need-shared-slice-read-value Inv-loop μ-loop
+shared-slice-read-value c = omega arith
 
 entry-requires : tie.Need-entry-requires Inv-loop μ-loop
 entry-requires c κs =
     let d = c .before .before .before .before .before .before .before .before in
-    let here = d .before .before .before .before .before .before .loop in
+    let loop = d .before .before .before .before .before in
+    let here = loop .before .loop in
     let seen = d .lane-of2 .ensures .0 ∙ ap laneAt (d .before .named .ensures) in
-    judged-at (here .t) _ _ (d .before .before .before .lane-of .ensures .0) _ refl _ _ seen refl _ (here .inv .fine)
+    rw (← here .inv .terms)
+    (judged-at (here .t) _ _ (d .before .before .before .lane-of .ensures .0) _ refl _ _ seen refl _ (here .inv .fine))
 
 code-of-requires : tie.Need-code-of-requires Inv-loop μ-loop
 code-of-requires c κs = search needs
 
-put-requires : tie.Need-put-requires Inv-loop μ-loop
-put-requires c κs = search needs
+put-wide-requires : tie.Need-put-wide-requires Inv-loop μ-loop
+put-wide-requires c κs = search needs
 
 add-i : tie.Need-add-i Inv-loop μ-loop
 add-i c =
-    let m = c .before .before .before .before .before .before .before .before .before .before .before .before .before .before .before .before .before .before .before .before .before .before .before .before .before .before .before .before .before .least4 in
-    let low = c .before .before .before .before .before .before .before .before .before .before .before .before .before .before .before .before .before .before .before .before .before .before .before .before .before .before .before .loop-test .taken in
+    let x = c .before .before .before .before .before .before .before .before in
+    let y = x .before .before .before .before .before .before .before .before in
+    let d = y .before .before .before in
+    let loop = d .before .before .before .before .before .before .before .before in
+    let m = loop .before .before .least4 in
+    let low = loop .loop-test .taken in
     omega arith
 
 changes-requires : tie.Need-changes-requires Inv-loop μ-loop
 changes-requires c κs = search needs
 
 mul-lane : tie.Need-mul-lane Inv-loop μ-loop
-mul-lane c = omega (arith, c .before .before .before .before .before .before .before .before .before .before .before .before .before .before .before .before .before .before .before .before .before .before .before .before .before .before .before .before .lane-of .ensures .1)
+mul-lane c =
+    let x = c .before .before .before .before .before .before .before .before in
+    let y = x .before .before .before .before .before .before .before .before in
+    let d = y .before .before .before .before .before .before .before .before .before in
+    omega (arith, d .before .before .before .lane-of .ensures .1)
 
 element-set-from-lane : tie.Need-element-set-from-lane Inv-loop μ-loop
-element-set-from-lane c = omega (arith, c .before .before .before .before .before .before .before .before .before .before .before .before .before .before .before .before .before .before .before .before .before .before .before .before .before .before .before .before .lane-of .ensures .1)
+element-set-from-lane c =
+    let x = c .before .before .before .before .before .before .before .before in
+    let y = x .before .before .before .before .before .before .before .before in
+    let d = y .before .before .before .before .before .before .before .before .before in
+    omega (arith, d .before .before .before .lane-of .ensures .1)
 
 loop-less : tie.Need-loop-less Inv-loop μ-loop
-loop-less c = omega (arith, c .before .before .before .before .before .before .before .before .before .before .before .before .before .before .before .before .before .before .before .before .before .before .before .before .before .before .before .before .before .before .loop-test .taken)
+loop-less c =
+    let x = c .before .before .before .before .before .before .before .before in
+    let y = x .before .before .before .before .before .before .before .before in
+    let w = y .before .before .before .before .before .before .before .before in
+    omega (arith, w .before .before .before .before .before .before .loop-test .taken)
 
 loop-again : tie.Need-loop-again Inv-loop μ-loop
 loop-again c =
-    let d = c .before .before .before .before .before .before .before .before .before .before .before .before .before .before .before .before .before .before .before .before .before .before .before .before .before in
-    let here = d .before .before .before .before .before .before .loop in
+    let x = c .before .before .before .before .before .before .before .before in
+    let y = x .before .before .before .before .before .before .before .before in
+    let d = y .before .before .before .before .before .before .before .before .before in
+    let loop = d .before .before .before .before .before in
+    let here = loop .before .loop in
     let at = d .before .before .before .lane-of .ensures .0 in
     let from = d .lane-of2 .ensures .0 ∙ ap laneAt (d .before .named .ensures) in
-    let out = c .before .before .before .before .before .before .before .before .before .before .before .before .before .before .before .before .entry .ensures in
-    going-more _ _ _ _ _ _ _ _ _ _ _ _ _ _ _ _ _ (here .t) _ (here .inv) _ _ _ _ _ _ _ _ _ _ refl (d .before .before .before .before .before .loop-test .taken) at from out (c .before .before .before .before .before .before .code-of .ensures) (c .before .before .before .before .before .put .ensures) (search needs) (search needs) (search needs) (search needs)
+    let put = c .before .before .before .before .before in
+    let lent = put .before .before .before .before in
+    let out = lent .before .before .before .before .before .before .before .entry .ensures in
+    going-more _ _ _ _ _ _ _ _ _ _ _ _ _ _ _ _ _ (here .t) _ (here .inv) _ _ _ _ _ _ _ _ _ _ refl (loop .loop-test .taken) at from out
+    (put .before .code-of .ensures) (put .put-wide .ensures) (lent .before .before .before .before .before .before .readings .given)
+    (lent .before .before .before .before .links .given) (lent .before .before .directory .given) (lent .pool .given)
 
 loop-less-2 : tie.Need-loop-less-2 Inv-loop μ-loop
-loop-less-2 c = omega (arith, c .before .before .before .before .before .before .before .before .before .before .before .before .before .before .before .before .before .before .before .before .before .before .before .before .before .before .before .before .before .loop-test .taken)
+loop-less-2 c =
+    let x = c .before .before .before .before .before .before .before .before in
+    let y = x .before .before .before .before .before .before .before .before in
+    let w = y .before .before .before .before .before .before .before .before in
+    omega (arith, w .before .before .before .before .before .loop-test .taken)
 
 loop-again-2 : tie.Need-loop-again-2 Inv-loop μ-loop
 loop-again-2 c =
-    let d = c .before .before .before .before .before .before .before .before .before .before .before .before .before .before .before .before .before .before .before .before .before .before .before .before in
-    let here = d .before .before .before .before .before .before .loop in
+    let x = c .before .before .before .before .before .before .before .before in
+    let y = x .before .before .before .before .before .before .before .before in
+    let d = y .before .before .before .before .before .before .before .before in
+    let loop = d .before .before .before .before .before in
+    let here = loop .before .loop in
     let at = d .before .before .before .lane-of .ensures .0 in
     let from = d .lane-of2 .ensures .0 ∙ ap laneAt (d .before .named .ensures) in
-    let out = c .before .before .before .before .before .before .before .before .before .before .before .before .before .before .before .entry .ensures in
-    going-kept _ _ _ _ _ _ _ _ _ _ _ _ _ _ _ _ _ (here .t) _ (here .inv) _ _ _ _ _ _ _ _ _ _ (c .before .changes .ensures) (c .if1 .left) (d .before .before .before .before .before .loop-test .taken) at from out (c .before .before .before .before .before .code-of .ensures) (c .before .before .before .before .put .ensures) (search needs) (search needs) (search needs) (search needs)
+    let put = c .before .before .before .before in
+    let lent = put .before .before .before .before in
+    let out = lent .before .before .before .before .before .before .before .entry .ensures in
+    going-kept _ _ _ _ _ _ _ _ _ _ _ _ _ _ _ _ _ (here .t) _ (here .inv) _ _ _ _ _ _ _ _ _ _
+    (c .before .changes .ensures) (c .if1 .left) (loop .loop-test .taken) at from out
+    (put .before .code-of .ensures) (put .put-wide .ensures) (lent .before .before .before .before .before .before .readings .given)
+    (lent .before .before .before .before .links .given) (lent .before .before .directory .given) (lent .pool .given)
 
 same-length : tie.Need-same-length Inv-loop μ-loop
 same-length c = search needs
@@ -160,8 +202,8 @@ run-spec =
     least-requires-3
     least-requires-4
     loop-holds
-    mul-t34
-    shared-slice-read-t36
+    mul-who
+    shared-slice-read-who
     lane-of-requires
     mul-l
     element-copy-out-l
@@ -169,14 +211,14 @@ run-spec =
     lane-of-requires-2
     mul-other
     element-copy-out-other
-    shared-slice-read-entry
-    mul-t34-2
-    shared-slice-read-t46
-    mul-entry
-    shared-slice-read-entry-2
+    shared-slice-read-kind
+    mul-cell
+    shared-slice-read-cell
+    mul-value
+    shared-slice-read-value
     entry-requires
     code-of-requires
-    put-requires
+    put-wide-requires
     add-i
     changes-requires
     mul-lane

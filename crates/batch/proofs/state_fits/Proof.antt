@@ -9,19 +9,19 @@ use Rattle.batch.proofs.state_fits.Statement.{statement}
 use Rattle.batch.proofs.state_fits.Tie as tie
 
 abbrev Inv-loop : tie.InvT-loop
-Inv-loop s fits₀ end i₀ fits i = (i ≤ end) × Passed s i fits
+Inv-loop s z fits₀ end i₀ fits i = (i ≤ end) × Passed s i fits
 
 abbrev μ-loop : tie.MeasureT-loop
-μ-loop s fits₀ end i₀ fits i = end - i
+μ-loop s z fits₀ end i₀ fits i = end - i
 
 sizes-fit-requires : tie.Need-sizes-fit-requires Inv-loop μ-loop
 sizes-fit-requires c κs = search needs
 
 lanes-below-requires : tie.Need-lanes-below-requires Inv-loop μ-loop
-lanes-below-requires c κs = few-lanes (c .before .args .t1) _ (c .sizes-fit .ensures)
+lanes-below-requires c κs = search (few-lanes)
 
 loop-holds : tie.Need-loop-holds Inv-loop μ-loop
-loop-holds c = (omega arith, passed-none (c .before .before .args .t1) _ (c .before .sizes-fit .ensures))
+loop-holds c = (omega arith, search (passed-none))
 
 mul-lane-fits : tie.Need-mul-lane-fits Inv-loop μ-loop
 mul-lane-fits c = omega arith
@@ -42,10 +42,17 @@ loop-less : tie.Need-loop-less Inv-loop μ-loop
 loop-less c = omega arith
 
 loop-again : tie.Need-loop-again Inv-loop μ-loop
-loop-again c = (omega arith, passed-more (c .before .before .before .before .before .before .before .args .t1) _ _ _ _ (c .before .before .before .before .loop .inv .1) (c .before .lane-fits .ensures) (c .both .ensures))
+loop-again c =
+    let d = c .before .before .before .before in
+    let s = d .before .before .before .before .args .t1 in
+    (omega arith, passed-more s _ _ _ _ (d .loop .inv .1) (c .before .lane-fits .ensures) (c .both .ensures))
 
 returns : tie.Need-returns Inv-loop μ-loop
-returns c = loop-end (c .before .before .before .before .args .t1) _ _ _ _ (c .before .before .before .sizes-fit .ensures) (c .before .before .lanes-below .ensures .1) (c .before .loop .inv .0) (c .loop-test .left) (c .before .loop .inv .1)
+returns c =
+    let d = c .before in
+    let e = d .before .before in
+    loop-end (e .before .before .args .t1) _ _ _ _ (e .sizes-fit .ensures) (d .before .lanes-below .ensures .1)
+    (d .loop .inv .0) (c .loop-test .left) (d .loop .inv .1)
 
 pub state-fits-spec : {M : Type 1} → statement M
 state-fits-spec =

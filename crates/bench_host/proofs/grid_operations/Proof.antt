@@ -8,7 +8,8 @@ use Rattle.bench_host.proofs.grid_operations.Tie as tie
 
 abbrev Inv-loop2 : tie.InvT-loop2
 Inv-loop2 readings₀ links₀ directory₀ pool₀ outcomes p m q busy before kind cells s₀ value cell i word₀ k₀ readings links directory pool s word k =
-    (length readings ≡ length readings₀) × (length links ≡ length links₀) × (length directory ≡ length directory₀) × (length pool ≡ length pool₀) × (k ≤ 11) × (i < length outcomes) × (length outcomes < 18446744073709551616)
+    (length readings ≡ length readings₀) × (length links ≡ length links₀) × (length directory ≡ length directory₀)
+    × (length pool ≡ length pool₀) × (k ≤ 11) × (i < length outcomes) × (length outcomes < 18446744073709551616)
 
 abbrev μ-loop2 : tie.MeasureT-loop2
 μ-loop2 readings₀ links₀ directory₀ pool₀ outcomes p m q busy before kind cells s₀ value cell i word₀ k₀ readings links directory pool s word k =
@@ -16,7 +17,9 @@ abbrev μ-loop2 : tie.MeasureT-loop2
 
 abbrev Inv-loop : tie.InvT-loop
 Inv-loop readings₀ links₀ directory₀ pool₀ outcomes₀ p m q busy before kind cells s₀ value₀ cell₀ i₀ readings links directory pool outcomes s value cell i =
-    (length readings ≡ length readings₀) × (length links ≡ length links₀) × (length directory ≡ length directory₀) × (length pool ≡ length pool₀) × (length outcomes ≡ length outcomes₀) × (i ≤ length outcomes₀) × (length outcomes₀ < 18446744073709551616)
+    (length readings ≡ length readings₀) × (length links ≡ length links₀) × (length directory ≡ length directory₀)
+    × (length pool ≡ length pool₀) × (length outcomes ≡ length outcomes₀) × (i ≤ length outcomes₀)
+    × (length outcomes₀ < 18446744073709551616)
 
 abbrev μ-loop : tie.MeasureT-loop
 μ-loop readings₀ links₀ directory₀ pool₀ outcomes₀ p m q busy before kind cells s₀ value₀ cell₀ i₀ readings links directory pool outcomes s value cell i =

@@ -8,11 +8,15 @@ use Rattle.bench_host.proofs.opened.Tie as tie
 
 abbrev Inv-loop : tie.InvT-loop
 Inv-loop p m busy readings₀ links₀ directory₀ pool₀ s₀ j₀ readings links directory pool s j =
-    (length readings ≡ length readings₀) × (length links ≡ length links₀) × (length directory ≡ length directory₀) × (length pool ≡ length pool₀) × (j ≤ busy) × (busy < 4294967296)
+    (length readings ≡ length readings₀) × (length links ≡ length links₀) × (length directory ≡ length directory₀)
+    × (length pool ≡ length pool₀) × (j ≤ busy) × (busy < 4294967296)
 
 abbrev μ-loop : tie.MeasureT-loop
 μ-loop p m busy readings₀ links₀ directory₀ pool₀ s₀ j₀ readings links directory pool s j =
     busy - j
+
+terms-requires : tie.Need-terms-requires Inv-loop μ-loop
+terms-requires c κs = search needs
 
 open-requires : tie.Need-open-requires Inv-loop μ-loop
 open-requires c κs = search needs
@@ -53,6 +57,7 @@ opened-spec =
     (tie.spec
     Inv-loop
     μ-loop
+    terms-requires
     open-requires
     loop-holds
     begun-requires

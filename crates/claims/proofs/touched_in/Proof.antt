@@ -1,12 +1,15 @@
 -- `claims::touched_in` meets its contract.
 -- Assumes nothing.
-use Rattle.claims.proofs.TouchLaws.{in-arm, in-marks, in-directory, in-mark}
+use Rattle.claims.proofs.TouchLaws.{in-link, in-marks, in-directory, in-mark}
 use borrow.Author.Needs.{needs}
 use Rattle.claims.proofs.touched_in.Statement.{statement}
 use Rattle.claims.proofs.touched_in.Tie as tie
 
 enum-told : tie.Need-enum-told
 enum-told c = search needs
+
+index-of-requires : tie.Need-index-of-requires
+index-of-requires c κs = search needs
 
 enum-known-c : tie.Need-enum-known-c
 enum-known-c c = search needs
@@ -39,7 +42,7 @@ pool-word-requires : tie.Need-pool-word-requires
 pool-word-requires c κs = search needs
 
 returns : tie.Need-returns
-returns c = search (in-arm)
+returns c = search (in-link)
 
 returns-2 : tie.Need-returns-2
 returns-2 c = search (in-marks)
@@ -55,6 +58,7 @@ touched-in-spec =
     tie.close
     (tie.spec
     enum-told
+    index-of-requires
     enum-known-c
     process-of-requires
     enum-known-c-2

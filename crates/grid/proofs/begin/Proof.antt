@@ -3,17 +3,17 @@
 use mathlib.Core.Path.{refl}
 use Prim.Native.Nat.{_≤_, _-_}
 use native.Mathlib.Omega.{arith}
-use borrow.Author.Needs.{needs}
 use Rattle.lanes.specs.Scan.{Passed, passed-none, passed-more, few-lanes}
 use Rattle.acts.proofs.StateLaws.{loop-end, begun-is}
+use borrow.Author.Needs.{needs}
 use Rattle.grid.proofs.begin.Statement.{statement}
 use Rattle.grid.proofs.begin.Tie as tie
 
 abbrev Inv-loop : tie.InvT-loop
-Inv-loop q a t k l fits₀ end i₀ fits i = (i ≤ end) × Passed t i fits
+Inv-loop q a t k l z fits₀ end i₀ fits i = (i ≤ end) × Passed t i fits
 
 abbrev μ-loop : tie.MeasureT-loop
-μ-loop q a t k l fits₀ end i₀ fits i = end - i
+μ-loop q a t k l z fits₀ end i₀ fits i = end - i
 
 lane-of-requires : tie.Need-lane-of-requires Inv-loop μ-loop
 lane-of-requires c κs = search needs
@@ -28,10 +28,10 @@ sizes-fit-requires : tie.Need-sizes-fit-requires Inv-loop μ-loop
 sizes-fit-requires c κs = search needs
 
 lanes-below-requires : tie.Need-lanes-below-requires Inv-loop μ-loop
-lanes-below-requires c κs = few-lanes (c .before .before .before .args .s) _ (c .sizes-fit .ensures)
+lanes-below-requires c κs = search (few-lanes)
 
 loop-holds : tie.Need-loop-holds Inv-loop μ-loop
-loop-holds c = (omega arith, passed-none (c .before .before .before .before .args .s) _ (c .before .sizes-fit .ensures))
+loop-holds c = (omega arith, search (passed-none))
 
 mul-lane-fits : tie.Need-mul-lane-fits Inv-loop μ-loop
 mul-lane-fits c = omega arith
@@ -52,7 +52,16 @@ loop-less : tie.Need-loop-less Inv-loop μ-loop
 loop-less c = omega arith
 
 loop-again : tie.Need-loop-again Inv-loop μ-loop
-loop-again c = (omega arith, passed-more (c .before .before .before .before .before .before .before .before .before .args .s) _ _ _ _ (c .before .before .before .before .loop .inv .1) (c .before .lane-fits .ensures) (c .both .ensures))
+loop-again c =
+    let d = c .before .before .before .before in
+    let s = d .before .before .before .before .before .before .args .s in
+    (omega arith, passed-more s _ _ _ _ (d .loop .inv .1) (c .before .lane-fits .ensures) (c .both .ensures))
+
+cell-of-requires : tie.Need-cell-of-requires Inv-loop μ-loop
+cell-of-requires c κs = search needs
+
+op-of-requires : tie.Need-op-of-requires Inv-loop μ-loop
+op-of-requires c κs = search needs
 
 begun-requires : tie.Need-begun-requires Inv-loop μ-loop
 begun-requires c κs = search needs
@@ -65,9 +74,15 @@ element-set-from-lane c = omega arith
 
 returns : tie.Need-returns Inv-loop μ-loop
 returns c =
-    let s = c .before .before .before .before .before .before .before .before .args .s in
-    let fine = loop-end s _ _ _ _ (c .before .before .before .before .before .sizes-fit .ensures) (c .before .before .before .before .lanes-below .ensures .1) (c .before .before .before .loop .inv .0) (c .before .before .loop-test .left) (c .before .before .before .loop .inv .1) in
-    begun-is s _ _ (c .before .before .before .before .before .before .before .lane-of .ensures .0) _ refl _ (c .before .before .before .before .before .before .before .before .args .a) _ fine (c .before .begun .ensures)
+    let b = c .before .before .before in
+    let d = b .before .before in
+    let e = d .before .before in
+    let top = e .before .before .before in
+    let a = top .before .args in
+    let fine = loop-end (a .s) _ _ _ _ (e .sizes-fit .ensures) (d .before .lanes-below .ensures .1) (d .loop .inv .0) (b .before .loop-test .left)
+    (d .loop .inv .1) in
+    begun-is (a .s) _ _ (top .lane-of .ensures .0) _ refl _ (a .a) _ _ _ fine (b .cell-of .ensures) (c .before .before .op-of .ensures)
+    (c .before .begun .ensures)
 
 pub begin-spec : {M : Type 1} → statement M
 begin-spec =
@@ -88,6 +103,8 @@ begin-spec =
     add-i
     loop-less
     loop-again
+    cell-of-requires
+    op-of-requires
     begun-requires
     mul-lane
     element-set-from-lane

@@ -1,12 +1,12 @@
 -- `grid::step` meets its contract.
 -- Assumes nothing.
+use mathlib.Core.Path.{refl, ap, sym, _∙_}
 use Prim.Native.Nat.{_≤_, _-_}
 use native.Mathlib.Omega.{arith}
-use mathlib.Core.Path.{refl, sym, ap, _∙_}
-use borrow.Author.Needs.{needs}
-use Rattle.acts.specs.Inner.{laneAt}
 use Rattle.lanes.specs.Scan.{Passed, passed-none, passed-more, few-lanes}
+use Rattle.acts.specs.Inner.{laneAt}
 use Rattle.acts.proofs.StateLaws.{loop-end, judged-at, step-is, step-kept}
+use borrow.Author.Needs.{needs}
 use Rattle.grid.proofs.step.Statement.{statement}
 use Rattle.grid.proofs.step.Tie as tie
 
@@ -41,10 +41,10 @@ sizes-fit-requires : tie.Need-sizes-fit-requires Inv-loop μ-loop
 sizes-fit-requires c κs = search needs
 
 lanes-below-requires : tie.Need-lanes-below-requires Inv-loop μ-loop
-lanes-below-requires c κs = few-lanes (c .before .before .before .before .before .before .before .before .before .before .args .s) _ (c .sizes-fit .ensures)
+lanes-below-requires c κs = search (few-lanes)
 
 loop-holds : tie.Need-loop-holds Inv-loop μ-loop
-loop-holds c = (omega arith, passed-none (c .before .before .before .before .before .before .before .before .before .before .before .args .s) _ (c .before .sizes-fit .ensures))
+loop-holds c = (omega arith, search (passed-none))
 
 mul-lane-fits : tie.Need-mul-lane-fits Inv-loop μ-loop
 mul-lane-fits c = omega arith
@@ -65,25 +65,39 @@ loop-less : tie.Need-loop-less Inv-loop μ-loop
 loop-less c = omega arith
 
 loop-again : tie.Need-loop-again Inv-loop μ-loop
-loop-again c = (omega arith, passed-more (c .before .before .before .before .before .before .before .before .before .before .before .before .before .before .before .before .args .s) _ _ _ _ (c .before .before .before .before .loop .inv .1) (c .before .lane-fits .ensures) (c .both .ensures))
+loop-again c =
+    let d = c .before .before .before .before in
+    let e = d .before .before .before .before .before in
+    let s = e .before .before .before .before .before .before .before .before .args .s in
+    (omega arith, passed-more s _ _ _ _ (d .loop .inv .1) (c .before .lane-fits .ensures) (c .both .ensures))
 
 act-requires : tie.Need-act-requires Inv-loop μ-loop
 act-requires c κs =
     let d = c .before .before .before .before in
-    let e = d .before .before .before .before .before in
-    let args = e .before .before .before .before .before .before .before .before .args in
-    let fine = loop-end (args .s) _ _ _ _ (d .before .before .before .sizes-fit .ensures) (d .before .before .lanes-below .ensures .1) (d .before .loop .inv .0) (d .loop-test .left) (d .before .loop .inv .1) in
+    let e = d .before .before .before .before .before .before in
+    let own = e .before .before .before in
+    let a = own .before .before .before .before .before .args in
+    let fine = loop-end (a .s) _ _ _ _ (d .before .before .before .sizes-fit .ensures) (d .before .before .lanes-below .ensures .1) (d .before .loop .inv .0)
+    (d .loop-test .left) (d .before .loop .inv .1) in
     let seen = e .lane-of2 .ensures .0 ∙ ap laneAt (e .before .named .ensures) in
-    judged-at (args .s) (args .q .0) _ (e .before .before .before .lane-of .ensures .0) _ refl _ _ seen refl _ fine
+    judged-at (a .s) (a .q .0) _ (own .lane-of .ensures .0) _ refl _ _ seen refl _ fine
 
 changes-requires : tie.Need-changes-requires Inv-loop μ-loop
 changes-requires c κs = search needs
 
 mul-lane : tie.Need-mul-lane Inv-loop μ-loop
-mul-lane c = omega (arith, c .before .before .before .before .before .before .before .before .before .before .before .before .before .before .before .before .before .before .before .before .before .before .before .before .lane-of .ensures .1)
+mul-lane c =
+    let b = c .before .before .before .before .before .before .before .before in
+    let d = b .before .before .before .before .before .before .before .before in
+    let own = d .before .before .before .before .before .before .before .before .before in
+    omega (arith, own .lane-of .ensures .1)
 
 element-set-from-lane : tie.Need-element-set-from-lane Inv-loop μ-loop
-element-set-from-lane c = omega (arith, c .before .before .before .before .before .before .before .before .before .before .before .before .before .before .before .before .before .before .before .before .before .before .before .before .lane-of .ensures .1)
+element-set-from-lane c =
+    let b = c .before .before .before .before .before .before .before .before in
+    let d = b .before .before .before .before .before .before .before .before in
+    let own = d .before .before .before .before .before .before .before .before .before in
+    omega (arith, own .lane-of .ensures .1)
 
 same-length : tie.Need-same-length Inv-loop μ-loop
 same-length c = search needs
@@ -99,12 +113,15 @@ same-length-4 c = search needs
 
 returns : tie.Need-returns Inv-loop μ-loop
 returns c =
-    let d = c .before .before .before .before .before .before .before .before .before .before .before .before .before .before .before .before in
-    let e = d .before .before .before .before .before in
-    let args = e .before .before .before .before .before .before .before .before .args in
-    let fine = loop-end (args .s) _ _ _ _ (d .before .before .before .sizes-fit .ensures) (d .before .before .lanes-below .ensures .1) (d .before .loop .inv .0) (d .loop-test .left) (d .before .loop .inv .1) in
+    let b = c .before .before .before .before .before .before .before .before .before .before .before in
+    let d = b .before .before .before .before .before in
+    let e = d .before .before .before .before .before .before in
+    let own = e .before .before .before in
+    let a = own .before .before .before .before .before .args in
+    let fine = loop-end (a .s) _ _ _ _ (d .before .before .before .sizes-fit .ensures) (d .before .before .lanes-below .ensures .1) (d .before .loop .inv .0)
+    (d .loop-test .left) (d .before .loop .inv .1) in
     let seen = e .lane-of2 .ensures .0 ∙ ap laneAt (e .before .named .ensures) in
-    step-is (args .s) (args .q .0) _ (e .before .before .before .lane-of .ensures .0) _ refl _ _ seen refl _ _ _ _ fine (c .before .before .before .before .before .before .before .before .before .before .before .act .ensures)
+    step-is (a .s) (a .q .0) _ (own .lane-of .ensures .0) _ refl _ _ seen refl _ _ _ _ fine (b .act .ensures)
 
 same-length-5 : tie.Need-same-length-5 Inv-loop μ-loop
 same-length-5 c = search needs
@@ -120,12 +137,16 @@ same-length-8 c = search needs
 
 returns-2 : tie.Need-returns-2 Inv-loop μ-loop
 returns-2 c =
-    let d = c .before .before .before .before .before .before .before .before .before .before .before .before .before .before .before in
-    let e = d .before .before .before .before .before in
-    let args = e .before .before .before .before .before .before .before .before .args in
-    let fine = loop-end (args .s) _ _ _ _ (d .before .before .before .sizes-fit .ensures) (d .before .before .lanes-below .ensures .1) (d .before .loop .inv .0) (d .loop-test .left) (d .before .loop .inv .1) in
+    let b = c .before .before .before .before .before .before .before .before .before .before in
+    let d = b .before .before .before .before .before in
+    let e = d .before .before .before .before .before .before in
+    let own = e .before .before .before in
+    let a = own .before .before .before .before .before .args in
+    let fine = loop-end (a .s) _ _ _ _ (d .before .before .before .sizes-fit .ensures) (d .before .before .lanes-below .ensures .1) (d .before .loop .inv .0)
+    (d .loop-test .left) (d .before .loop .inv .1) in
     let seen = e .lane-of2 .ensures .0 ∙ ap laneAt (e .before .named .ensures) in
-    step-kept (args .s) (args .q .0) _ (e .before .before .before .lane-of .ensures .0) _ refl _ _ seen refl _ _ _ _ fine (c .before .before .before .before .before .before .before .before .before .before .act .ensures) (sym (c .before .changes .ensures) ∙ c .if1 .left)
+    step-kept (a .s) (a .q .0) _ (own .lane-of .ensures .0) _ refl _ _ seen refl _ _ _ _ fine (b .act .ensures)
+    (sym (c .before .changes .ensures) ∙ c .if1 .left)
 
 pub step-spec : {M : Type 1} → statement M
 step-spec =

@@ -36,7 +36,8 @@ same-length-4 : tie.Need-same-length-4
 same-length-4 c = search needs
 
 returns : tie.Need-returns
-returns c = act-refused _ _ _ _ _ _ _ (c .before .before .before .before .verdict-of .ensures) _ _ (c .before .before .v .given .1) (c .refused .ensures)
+returns c =
+    act-refused _ _ _ _ _ _ _ _ (c .before .before .before .before .verdict-of .ensures) _ _ (c .before .before .v .given .1) (c .refused .ensures)
 
 same-length-5 : tie.Need-same-length-5
 same-length-5 c = search needs

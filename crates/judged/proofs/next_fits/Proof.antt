@@ -5,20 +5,20 @@ use borrow.Author.Needs.{needs}
 use Rattle.judged.proofs.next_fits.Statement.{statement}
 use Rattle.judged.proofs.next_fits.Tie as tie
 
-enum-known-next : tie.Need-enum-known-next
-enum-known-next c = search needs
-
-op-new-requires : tie.Need-op-new-requires
-op-new-requires c κs = search needs
-
 enum-told : tie.Need-enum-told
 enum-told c = search needs
+
+op-goes-requires : tie.Need-op-goes-requires
+op-goes-requires c κs = search needs
 
 enum-told-2 : tie.Need-enum-told-2
 enum-told-2 c = search needs
 
 enum-told-3 : tie.Need-enum-told-3
 enum-told-3 c = search needs
+
+enum-told-4 : tie.Need-enum-told-4
+enum-told-4 c = search needs
 
 returns : tie.Need-returns
 returns c = search (goes-more)
@@ -39,11 +39,11 @@ pub next-fits-spec : {M : Type 1} → statement M
 next-fits-spec =
     tie.close
     (tie.spec
-    enum-known-next
-    op-new-requires
     enum-told
+    op-goes-requires
     enum-told-2
     enum-told-3
+    enum-told-4
     returns
     returns-2
     returns-3

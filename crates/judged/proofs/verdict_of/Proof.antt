@@ -28,8 +28,12 @@ turn-of-requires c κs = search (sizes-known, lane-known)
 
 decided-requires : tie.Need-decided-requires
 decided-requires c κs =
-    let top = c .before .before .before .before .before .before .before .before .before .before .before .before .before in
-    told-known _ _ _ _ _ (top .pre) (c .before .before .before .before .before .before .before .before .if1 .left) _ _ (c .before .before .before .if3 .left) (c .turn-of .ensures)
+    let low = c .before .before .before in
+    let lent = low .before .before .before .before .before in
+    let top = lent .before .before .before .before .before in
+    let a = top .args in
+    told-known _ _ _ _ _ _ (top .pre) (lent .if1 .left) (a .readings .now) (a .links .now) (a .directory .now) (a .pool .now) _ (low .if3 .left)
+    (c .turn-of .ensures)
 
 returns-5 : tie.Need-returns-5
 returns-5 c = search (judged-on)

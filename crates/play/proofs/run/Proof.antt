@@ -6,7 +6,7 @@ use native.Mathlib.Omega.{arith}
 use borrow.Author.Needs.{needs}
 use lib.ListN.{length}
 use Rattle.steps.specs.Memory.{memory}
-use Rattle.play.specs.Play.{world}
+use Rattle.acts.specs.Worlds.{world}
 use Rattle.play.specs.Inner.{listRecords}
 use Rattle.play.proofs.ListLaws.{count-fits, count-less}
 use Rattle.play.proofs.RunLaws.{Going, going-start, going-sized, going-short, going-room, going-next, going-end}
@@ -16,11 +16,17 @@ use Rattle.play.proofs.run.Tie as tie
 abbrev Inv-loop : tie.InvT-loop
 Inv-loop bytes n readings₀ links₀ directory₀ pool₀ out₀ s₀ at₀ words₀ k₀ readings links directory pool out s at words k =
     Going bytes n (world s₀ (memory readings₀ links₀ directory₀ pool₀)) out₀ at₀ (world s (memory readings links directory pool)) out at k
-    × ((listRecords ≡ length words) × ((length readings ≡ length readings₀) × ((length links ≡ length links₀) × ((length directory ≡ length directory₀) × (length pool ≡ length pool₀)))))
+    × ((listRecords ≡ length words)
+    × ((length readings ≡ length readings₀)
+    × ((length links ≡ length links₀)
+    × ((length directory ≡ length directory₀) × (length pool ≡ length pool₀)))))
 
 abbrev μ-loop : tie.MeasureT-loop
 μ-loop bytes n readings₀ links₀ directory₀ pool₀ out₀ s₀ at₀ words₀ k₀ readings links directory pool out s at words k =
     n - k
+
+terms-of-requires : tie.Need-terms-of-requires Inv-loop μ-loop
+terms-of-requires c κs = search needs
 
 open-requires : tie.Need-open-requires Inv-loop μ-loop
 open-requires c κs = search needs
@@ -53,26 +59,37 @@ slice-aggregate-lines c = search needs
 
 lines-requires : tie.Need-lines-requires Inv-loop μ-loop
 lines-requires c κs =
-    let d = c .before .before .before .before .before .before .before .before .before .before .before .before .before .before .before .before .before in
+    let far = c .before .before .before .before .before .before in
+    let farther = far .before .before .before .before .before .before in
+    let d = farther .before .before .before .before .before in
     going-room _ _ _ _ _ _ _ _ _ (d .before .before .loop .inv .0) _ _ (d .before .loop-test .taken) (d .count .ensures) (search needs)
 
 add-k : tie.Need-add-k Inv-loop μ-loop
 add-k c =
-    let d = c .before .before .before .before .before .before .before .before .before .before .before .before .before .before .before .before .before .before .before .before in
+    let far = c .before .before .before .before .before .before .before in
+    let farther = far .before .before .before .before .before .before .before in
+    let d = farther .before .before .before .before .before .before in
     let fits = count-fits _ _ _ (d .before .loop-test .taken) (d .count .ensures) (search needs) in
     omega (arith, fits)
 
 loop-less : tie.Need-loop-less Inv-loop μ-loop
 loop-less c =
-    let d = c .before .before .before .before .before .before .before .before .before .before .before .before .before .before .before .before .before .before .before .before in
+    let far = c .before .before .before .before .before .before .before in
+    let farther = far .before .before .before .before .before .before .before in
+    let d = farther .before .before .before .before .before .before in
     count-less _ _ _ (d .before .loop-test .taken) (d .count .ensures)
 
 loop-again : tie.Need-loop-again Inv-loop μ-loop
 loop-again c =
-    let d = c .before .before .before .before .before .before .before .before .before .before .before .before .before .before in
+    let far = c .before .before .before .before .before .before .before in
+    let d = far .before .before .before .before .before .before .before in
     let e = d .before .before .before .before .before .before in
     let inv = e .before .before .loop .inv in
-    (going-next _ _ _ _ _ _ _ _ _ (inv .0) _ _ (e .before .loop-test .taken) (e .count .ensures) _ _ _ (d .played .ensures _ (inv .0 .is)) (c .before .before .lines .ensures), (search needs, (search needs, (search needs, (search (needs, c .before .before .before .before .before .before .before .before .directory .given), search needs)))))
+    let listed = d .played .ensures _ (inv .0 .is) in
+    let directory = far .before .directory .given in (
+      going-next _ _ _ _ _ _ _ _ _ (inv .0) _ _ (e .before .loop-test .taken) (e .count .ensures) _ _ _ listed (c .before .before .lines .ensures),
+      (search needs, (search needs, (search needs, (search (needs, directory), search needs)))),
+    )
 
 same-length : tie.Need-same-length Inv-loop μ-loop
 same-length c = search needs
@@ -98,6 +115,7 @@ run-spec =
     (tie.spec
     Inv-loop
     μ-loop
+    terms-of-requires
     open-requires
     put-sizes-requires
     end-of-requires

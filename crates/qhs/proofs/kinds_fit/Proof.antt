@@ -9,13 +9,13 @@ use Rattle.qhs.proofs.kinds_fit.Statement.{statement}
 use Rattle.qhs.proofs.kinds_fit.Tie as tie
 
 abbrev Inv-loop : tie.InvT-loop
-Inv-loop bytes n k₀ k = (k ≤ n) × Known bytes k
+Inv-loop l bytes n k₀ k = (k ≤ n) × Known l bytes k
 
 abbrev μ-loop : tie.MeasureT-loop
-μ-loop bytes n k₀ k = n - k
+μ-loop l bytes n k₀ k = n - k
 
 loop-holds : tie.Need-loop-holds Inv-loop μ-loop
-loop-holds c = (omega arith, known-none _)
+loop-holds c = (omega arith, known-none _ _)
 
 start-of-requires : tie.Need-start-of-requires Inv-loop μ-loop
 start-of-requires c κs = search needs

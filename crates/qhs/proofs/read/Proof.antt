@@ -1,67 +1,15 @@
 -- `qhs::read` meets its contract.
 -- Assumes nothing.
-use Rattle.qhs.proofs.ReadLaws.{too-long, too-short, unmarked, other-version, many-cells, ragged, unknown-kind, left-to-open}
+use Rattle.qhs.proofs.ReadLaws.{read-is}
 use borrow.Author.Needs.{needs}
 use Rattle.qhs.proofs.read.Statement.{statement}
 use Rattle.qhs.proofs.read.Tie as tie
 
+read-in-requires : tie.Need-read-in-requires
+read-in-requires c κs = search needs
+
 returns : tie.Need-returns
-returns c = search (too-long)
-
-returns-2 : tie.Need-returns-2
-returns-2 c = search (too-short)
-
-marked-requires : tie.Need-marked-requires
-marked-requires c κs = search needs
-
-returns-3 : tie.Need-returns-3
-returns-3 c = search (unmarked)
-
-number-at-requires : tie.Need-number-at-requires
-number-at-requires c κs = search needs
-
-returns-4 : tie.Need-returns-4
-returns-4 c = search (other-version)
-
-header-of-requires : tie.Need-header-of-requires
-header-of-requires c κs = search needs
-
-returns-5 : tie.Need-returns-5
-returns-5 c = search (many-cells)
-
-sub-body : tie.Need-sub-body
-sub-body c = search needs
-
-returns-6 : tie.Need-returns-6
-returns-6 c = search (ragged)
-
-kinds-fit-requires : tie.Need-kinds-fit-requires
-kinds-fit-requires c κs = search needs
-
-returns-7 : tie.Need-returns-7
-returns-7 c = search (unknown-kind)
-
-opened-requires : tie.Need-opened-requires
-opened-requires c κs = search needs
-
-returns-8 : tie.Need-returns-8
-returns-8 c = search (left-to-open)
+returns c = search (read-is)
 
 pub read-spec : {M : Type 1} → statement M
-read-spec =
-    tie.close
-    (tie.spec
-    returns
-    returns-2
-    marked-requires
-    returns-3
-    number-at-requires
-    returns-4
-    header-of-requires
-    returns-5
-    sub-body
-    returns-6
-    kinds-fit-requires
-    returns-7
-    opened-requires
-    returns-8)
+read-spec = tie.close (tie.spec read-in-requires returns)

@@ -1,5 +1,6 @@
 -- `qhs::record_at` meets its contract.
 -- Assumes nothing.
+use Rattle.qhs.specs.Qhs.{version1}
 use Rattle.qhs.proofs.FieldLaws.{record-there}
 use borrow.Author.Needs.{needs}
 use Rattle.qhs.proofs.record_at.Statement.{statement}
@@ -17,20 +18,20 @@ add-byte-at c = search needs
 byte-at-requires-2 : tie.Need-byte-at-requires-2
 byte-at-requires-2 c κs = search needs
 
-add-cell-at : tie.Need-add-cell-at
-add-cell-at c = search needs
+add-word-at : tie.Need-add-word-at
+add-word-at c = search needs
 
-cell-at-requires : tie.Need-cell-at-requires
-cell-at-requires c κs = search needs
+word-at-requires : tie.Need-word-at-requires
+word-at-requires c κs = search needs
 
-add-value-at : tie.Need-add-value-at
-add-value-at c = search needs
+add-word-at-2 : tie.Need-add-word-at-2
+add-word-at-2 c = search needs
 
-value-at-requires : tie.Need-value-at-requires
-value-at-requires c κs = search needs
+word-at-requires-2 : tie.Need-word-at-requires-2
+word-at-requires-2 c κs = search needs
 
 returns : tie.Need-returns
-returns c = search (record-there)
+returns c = search (record-there version1)
 
 pub record-at-spec : {M : Type 1} → statement M
 record-at-spec =
@@ -40,8 +41,8 @@ record-at-spec =
     byte-at-requires
     add-byte-at
     byte-at-requires-2
-    add-cell-at
-    cell-at-requires
-    add-value-at
-    value-at-requires
+    add-word-at
+    word-at-requires
+    add-word-at-2
+    word-at-requires-2
     returns)

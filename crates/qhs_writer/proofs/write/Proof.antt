@@ -1,6 +1,6 @@
 -- `qhs_writer::write` meets its contract.
 -- Assumes nothing.
-use Rattle.qhs_writer.proofs.WriteLaws.{too-long, many-cells, unknown-kind, no-process, many-processes, no-cell, no-room, written}
+use Rattle.qhs_writer.proofs.WriteLaws.{too-long, many-cells, unknown-kind, not-counted, left-to-room}
 use borrow.Author.Needs.{needs}
 use Rattle.qhs_writer.proofs.write.Statement.{statement}
 use Rattle.qhs_writer.proofs.write.Tie as tie
@@ -20,35 +20,26 @@ known-requires c κs = search needs
 returns-3 : tie.Need-returns-3
 returns-3 c = search (unknown-kind)
 
+counts-of-requires : tie.Need-counts-of-requires
+counts-of-requires c κs = search needs
+
+enum-known-r : tie.Need-enum-known-r
+enum-known-r c = search needs
+
+enum-told : tie.Need-enum-told
+enum-told c = search needs
+
+filed-requires : tie.Need-filed-requires
+filed-requires c κs = search needs
+
 returns-4 : tie.Need-returns-4
-returns-4 c = search (no-process)
-
-returns-5 : tie.Need-returns-5
-returns-5 c = search (many-processes)
-
-returns-6 : tie.Need-returns-6
-returns-6 c = search (no-cell)
-
-mul-if7 : tie.Need-mul-if7
-mul-if7 c = search needs
-
-add-if7 : tie.Need-add-if7
-add-if7 c = search needs
-
-returns-7 : tie.Need-returns-7
-returns-7 c = search (no-room)
-
-header-requires : tie.Need-header-requires
-header-requires c κs = search needs
-
-entries-requires : tie.Need-entries-requires
-entries-requires c κs = search needs
+returns-4 c = search (not-counted)
 
 same-length : tie.Need-same-length
 same-length c = search needs
 
-returns-8 : tie.Need-returns-8
-returns-8 c = search (written)
+returns-5 : tie.Need-returns-5
+returns-5 c = search (left-to-room)
 
 pub write-spec : {M : Type 1} → statement M
 write-spec =
@@ -59,13 +50,10 @@ write-spec =
     returns-2
     known-requires
     returns-3
+    counts-of-requires
+    enum-known-r
+    enum-told
+    filed-requires
     returns-4
-    returns-5
-    returns-6
-    mul-if7
-    add-if7
-    returns-7
-    header-requires
-    entries-requires
     same-length
-    returns-8)
+    returns-5)

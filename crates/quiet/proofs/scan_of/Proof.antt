@@ -9,19 +9,19 @@ use Rattle.quiet.proofs.scan_of.Statement.{statement}
 use Rattle.quiet.proofs.scan_of.Tie as tie
 
 abbrev Inv-loop : tie.InvT-loop
-Inv-loop s fits₀ end calm₀ i₀ fits calm i = (i ≤ end) × Passed s i fits × Calm s i calm
+Inv-loop s z fits₀ end calm₀ i₀ fits calm i = (i ≤ end) × Passed s i fits × Calm s i calm
 
 abbrev μ-loop : tie.MeasureT-loop
-μ-loop s fits₀ end calm₀ i₀ fits calm i = end - i
+μ-loop s z fits₀ end calm₀ i₀ fits calm i = end - i
 
 sizes-fit-requires : tie.Need-sizes-fit-requires Inv-loop μ-loop
 sizes-fit-requires c κs = search needs
 
 lanes-below-requires : tie.Need-lanes-below-requires Inv-loop μ-loop
-lanes-below-requires c κs = few-lanes (c .before .args .t1) _ (c .sizes-fit .ensures)
+lanes-below-requires c κs = search (few-lanes)
 
 loop-holds : tie.Need-loop-holds Inv-loop μ-loop
-loop-holds c = (omega arith, passed-none (c .before .before .args .t1) _ (c .before .sizes-fit .ensures), calm-none (c .before .before .args .t1))
+loop-holds c = (omega arith, search (passed-none), search (calm-none))
 
 mul-l : tie.Need-mul-l Inv-loop μ-loop
 mul-l c = omega arith
@@ -48,16 +48,31 @@ loop-less : tie.Need-loop-less Inv-loop μ-loop
 loop-less c = omega arith
 
 loop-again : tie.Need-loop-again Inv-loop μ-loop
-loop-again c = (omega arith, passed-more (c .before .before .before .before .before .before .before .before .before .args .t1) _ _ _ _ (c .before .before .before .before .before .before .loop .inv .1) (c .before .before .before .lane-fits .ensures) (c .before .before .both .ensures), calm-more (c .before .before .before .before .before .before .before .before .before .args .t1) _ _ _ _ (c .before .before .before .before .before .before .loop .inv .2) (c .before .idle .ensures) (c .both2 .ensures))
+loop-again c =
+    let d = c .before .before .before .before .before .before in
+    let s = d .before .before .before .before .args .t1 in (
+      omega arith,
+      passed-more s _ _ _ _ (d .loop .inv .1) (c .before .before .before .lane-fits .ensures) (c .before .before .both .ensures),
+      calm-more s _ _ _ _ (d .loop .inv .2) (c .before .idle .ensures) (c .both2 .ensures),
+    )
 
 returns : tie.Need-returns Inv-loop μ-loop
-returns c = is-unfit (c .before .before .before .before .before .args .t1) _ _ _ _ _ (c .before .before .before .before .sizes-fit .ensures) (c .before .before .before .lanes-below .ensures .1) (c .before .before .loop .inv .0) (c .before .loop-test .left) (c .before .before .loop .inv .1) (c .before .before .loop .inv .2) (c .if1 .taken)
+returns c =
+    let d = c .before .before in
+    is-unfit (d .before .before .before .before .args .t1) _ _ _ _ _ (d .before .before .sizes-fit .ensures) (d .before .lanes-below .ensures .1)
+    (d .loop .inv .0) (c .before .loop-test .left) (d .loop .inv .1) (d .loop .inv .2) (c .if1 .taken)
 
 returns-2 : tie.Need-returns-2 Inv-loop μ-loop
-returns-2 c = is-at-rest (c .before .before .before .before .before .before .args .t1) _ _ _ _ _ (c .before .before .before .before .before .sizes-fit .ensures) (c .before .before .before .before .lanes-below .ensures .1) (c .before .before .before .loop .inv .0) (c .before .before .loop-test .left) (c .before .before .before .loop .inv .1) (c .before .before .before .loop .inv .2) (c .before .if1 .left) (c .if2 .taken)
+returns-2 c =
+    let d = c .before .before .before in
+    is-at-rest (d .before .before .before .before .args .t1) _ _ _ _ _ (d .before .before .sizes-fit .ensures) (d .before .lanes-below .ensures .1)
+    (d .loop .inv .0) (c .before .before .loop-test .left) (d .loop .inv .1) (d .loop .inv .2) (c .before .if1 .left) (c .if2 .taken)
 
 returns-3 : tie.Need-returns-3 Inv-loop μ-loop
-returns-3 c = is-at-work (c .before .before .before .before .before .before .args .t1) _ _ _ _ _ (c .before .before .before .before .before .sizes-fit .ensures) (c .before .before .before .before .lanes-below .ensures .1) (c .before .before .before .loop .inv .0) (c .before .before .loop-test .left) (c .before .before .before .loop .inv .1) (c .before .before .before .loop .inv .2) (c .before .if1 .left) (c .if2 .left)
+returns-3 c =
+    let d = c .before .before .before in
+    is-at-work (d .before .before .before .before .args .t1) _ _ _ _ _ (d .before .before .sizes-fit .ensures) (d .before .lanes-below .ensures .1)
+    (d .loop .inv .0) (c .before .before .loop-test .left) (d .loop .inv .1) (d .loop .inv .2) (c .before .if1 .left) (c .if2 .left)
 
 pub scan-of-spec : {M : Type 1} → statement M
 scan-of-spec =

@@ -1,6 +1,6 @@
 -- `text::put_answer` meets its contract.
 -- Assumes nothing.
-use Rattle.text.proofs.SaidLaws.{put-made}
+use Rattle.byte_lists.proofs.MadeLaws.{put-made}
 use borrow.Author.Needs.{needs}
 use Rattle.text.proofs.put_answer.Statement.{statement}
 use Rattle.text.proofs.put_answer.Tie as tie

@@ -1,6 +1,6 @@
 -- `text::put_file_refused` meets its contract.
 -- Assumes nothing.
-use Rattle.text.proofs.SaidLaws.{put-made}
+use Rattle.byte_lists.proofs.MadeLaws.{put-made}
 use borrow.Author.Needs.{needs}
 use Rattle.text.proofs.put_file_refused.Statement.{statement}
 use Rattle.text.proofs.put_file_refused.Tie as tie

@@ -1,6 +1,6 @@
 -- `turns::turn_of` meets its contract.
 -- Assumes nothing.
-use Rattle.turns.proofs.WriteLaws.{op-arm, op-read, op-reading, op-asked, op-write}
+use Rattle.turns.proofs.WriteLaws.{op-arm, op-read, op-reading, op-asked, op-store, op-write, marking-fits}
 use borrow.Author.Needs.{needs}
 use Rattle.turns.proofs.turn_of.Statement.{statement}
 use Rattle.turns.proofs.turn_of.Tie as tie
@@ -35,8 +35,23 @@ asked-turn-requires c κs = search needs
 enum-known-o-4 : tie.Need-enum-known-o-4
 enum-known-o-4 c = search needs
 
-write-turn-requires : tie.Need-write-turn-requires
-write-turn-requires c κs = search (op-write)
+index-of-requires : tie.Need-index-of-requires
+index-of-requires c κs = search needs
+
+enum-known-o-5 : tie.Need-enum-known-o-5
+enum-known-o-5 c = search needs
+
+check-requires-3 : tie.Need-check-requires-3
+check-requires-3 c κs = search needs
+
+checked-turn-requires : tie.Need-checked-turn-requires
+checked-turn-requires c κs = search needs
+
+enum-known-o-6 : tie.Need-enum-known-o-6
+enum-known-o-6 c = search needs
+
+marking-turn-requires : tie.Need-marking-turn-requires
+marking-turn-requires c κs = search (marking-fits)
 
 returns : tie.Need-returns
 returns c = search (op-arm)
@@ -51,7 +66,13 @@ returns-4 : tie.Need-returns-4
 returns-4 c = search (op-asked)
 
 returns-5 : tie.Need-returns-5
-returns-5 c = search (op-arm)
+returns-5 c = search (op-store)
+
+returns-6 : tie.Need-returns-6
+returns-6 c = search (op-write)
+
+returns-7 : tie.Need-returns-7
+returns-7 c = search (op-arm)
 
 pub turn-of-spec : {M : Type 1} → statement M
 turn-of-spec =
@@ -67,9 +88,16 @@ turn-of-spec =
     check-requires-2
     asked-turn-requires
     enum-known-o-4
-    write-turn-requires
+    index-of-requires
+    enum-known-o-5
+    check-requires-3
+    checked-turn-requires
+    enum-known-o-6
+    marking-turn-requires
     returns
     returns-2
     returns-3
     returns-4
-    returns-5)
+    returns-5
+    returns-6
+    returns-7)

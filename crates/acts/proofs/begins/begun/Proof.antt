@@ -26,17 +26,14 @@ refused-requires-3 c κs = search needs
 returns-3 : tie.Need-returns-3
 returns-3 c = search (begun-6)
 
-cell-of-requires : tie.Need-cell-of-requires
-cell-of-requires c κs = search needs
+cell-fits-requires : tie.Need-cell-fits-requires
+cell-fits-requires c κs = search needs
 
 refused-requires-4 : tie.Need-refused-requires-4
 refused-requires-4 c κs = search needs
 
 returns-4 : tie.Need-returns-4
 returns-4 c = search (begun-5)
-
-op-of-requires : tie.Need-op-of-requires
-op-of-requires c κs = search needs
 
 returns-5 : tie.Need-returns-5
 returns-5 c = search (begun-on)
@@ -52,8 +49,7 @@ begun-spec =
     idle-requires
     refused-requires-3
     returns-3
-    cell-of-requires
+    cell-fits-requires
     refused-requires-4
     returns-4
-    op-of-requires
     returns-5)

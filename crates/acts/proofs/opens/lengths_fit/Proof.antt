@@ -5,8 +5,14 @@ use borrow.Author.Needs.{needs}
 use Rattle.acts.proofs.opens.lengths_fit.Statement.{statement}
 use Rattle.acts.proofs.opens.lengths_fit.Tie as tie
 
+cast-if1 : tie.Need-cast-if1
+cast-if1 c = search needs
+
 returns : tie.Need-returns
 returns c = search (readings-differ)
+
+cast-if2 : tie.Need-cast-if2
+cast-if2 c = search needs
 
 returns-2 : tie.Need-returns-2
 returns-2 c = search (links-differ)
@@ -26,4 +32,12 @@ returns-4 c = search (pool-decides)
 pub lengths-fit-spec : {M : Type 1} → statement M
 lengths-fit-spec =
     tie.close
-    (tie.spec returns returns-2 directory-words-requires returns-3 pool-words-requires returns-4)
+    (tie.spec
+    cast-if1
+    returns
+    cast-if2
+    returns-2
+    directory-words-requires
+    returns-3
+    pool-words-requires
+    returns-4)

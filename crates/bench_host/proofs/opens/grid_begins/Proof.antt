@@ -12,6 +12,9 @@ abbrev μ-loop : tie.MeasureT-loop
 μ-loop readings links directory pool p m n t sum₀ i₀ sum i =
     n - i
 
+terms-requires : tie.Need-terms-requires Inv-loop μ-loop
+terms-requires c κs = search needs
+
 open-requires : tie.Need-open-requires Inv-loop μ-loop
 open-requires c κs = search needs
 
@@ -42,6 +45,7 @@ grid-begins-spec =
     (tie.spec
     Inv-loop
     μ-loop
+    terms-requires
     open-requires
     loop-holds
     begin-requires

@@ -15,6 +15,9 @@ abbrev μ-loop : tie.MeasureT-loop
 loop-holds : tie.Need-loop-holds Inv-loop μ-loop
 loop-holds c = search needs
 
+terms-requires : tie.Need-terms-requires Inv-loop μ-loop
+terms-requires c κs = search needs
+
 open-requires : tie.Need-open-requires Inv-loop μ-loop
 open-requires c κs = search needs
 
@@ -43,6 +46,7 @@ grid-opens-spec =
     Inv-loop
     μ-loop
     loop-holds
+    terms-requires
     open-requires
     begin-requires
     wrapping-add-u32-requires

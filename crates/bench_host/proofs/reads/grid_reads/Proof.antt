@@ -8,7 +8,9 @@ use Rattle.bench_host.proofs.reads.grid_reads.Tie as tie
 
 abbrev Inv-loop : tie.InvT-loop
 Inv-loop readings₀ links₀ directory₀ pool₀ outcomes₀ p m q steps five s₀ i₀ readings links directory pool outcomes s i =
-    (length readings ≡ length readings₀) × (length links ≡ length links₀) × (length directory ≡ length directory₀) × (length pool ≡ length pool₀) × (length outcomes ≡ length outcomes₀) × (i ≤ length outcomes₀) × (length outcomes₀ < 18446744073709551616)
+    (length readings ≡ length readings₀) × (length links ≡ length links₀) × (length directory ≡ length directory₀)
+    × (length pool ≡ length pool₀) × (length outcomes ≡ length outcomes₀) × (i ≤ length outcomes₀)
+    × (length outcomes₀ < 18446744073709551616)
 
 abbrev μ-loop : tie.MeasureT-loop
 μ-loop readings₀ links₀ directory₀ pool₀ outcomes₀ p m q steps five s₀ i₀ readings links directory pool outcomes s i =

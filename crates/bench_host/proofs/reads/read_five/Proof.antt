@@ -25,16 +25,40 @@ step-requires-5 : tie.Need-step-requires-5
 step-requires-5 c κs = search needs
 
 same-length : tie.Need-same-length
-same-length c = omega (arith, c .before .before .before .before .before .before .before .before .step5 .kept, c .before .before .before .before .before .before .before .before .before .before .before .before .before .before .before .before .before .before .before .before .before .step4 .kept, c .before .before .before .before .before .before .before .before .before .before .before .before .before .before .before .before .before .before .before .before .before .before .before .before .before .before .before .before .before .before .before .before .before .before .step3 .kept, c .before .before .before .before .before .before .before .before .before .before .before .before .before .before .before .before .before .before .before .before .before .before .before .before .before .before .before .before .before .before .before .before .before .before .before .before .before .before .before .before .before .before .before .before .before .before .before .step2 .kept, c .before .before .before .before .before .before .before .before .before .before .before .before .before .before .before .before .before .before .before .before .before .before .before .before .before .before .before .before .before .before .before .before .before .before .before .before .before .before .before .before .before .before .before .before .before .before .before .before .before .before .before .before .before .before .before .before .before .before .before .before .step .kept)
+same-length c =
+    let d = c .before .before .before .before .before .before .before .before in
+    let e = d .before .before .before .before .before .before .before .before .before .before .before .before .before in
+    let f = e .before .before .before .before .before .before .before .before .before .before .before .before .before in
+    let g = f .before .before .before .before .before .before .before .before .before .before .before .before .before in
+    let h = g .before .before .before .before .before .before .before .before .before .before .before .before .before in
+    omega (arith, d .step5 .kept, e .step4 .kept, f .step3 .kept, g .step2 .kept, h .step .kept)
 
 same-length-2 : tie.Need-same-length-2
-same-length-2 c = omega (arith, c .before .before .before .before .before .before .before .before .step5 .kept, c .before .before .before .before .before .before .before .before .before .before .before .before .before .before .before .before .before .before .before .before .before .step4 .kept, c .before .before .before .before .before .before .before .before .before .before .before .before .before .before .before .before .before .before .before .before .before .before .before .before .before .before .before .before .before .before .before .before .before .before .step3 .kept, c .before .before .before .before .before .before .before .before .before .before .before .before .before .before .before .before .before .before .before .before .before .before .before .before .before .before .before .before .before .before .before .before .before .before .before .before .before .before .before .before .before .before .before .before .before .before .before .step2 .kept, c .before .before .before .before .before .before .before .before .before .before .before .before .before .before .before .before .before .before .before .before .before .before .before .before .before .before .before .before .before .before .before .before .before .before .before .before .before .before .before .before .before .before .before .before .before .before .before .before .before .before .before .before .before .before .before .before .before .before .before .before .step .kept)
+same-length-2 c =
+    let d = c .before .before .before .before .before .before .before .before in
+    let e = d .before .before .before .before .before .before .before .before .before .before .before .before .before in
+    let f = e .before .before .before .before .before .before .before .before .before .before .before .before .before in
+    let g = f .before .before .before .before .before .before .before .before .before .before .before .before .before in
+    let h = g .before .before .before .before .before .before .before .before .before .before .before .before .before in
+    omega (arith, d .step5 .kept, e .step4 .kept, f .step3 .kept, g .step2 .kept, h .step .kept)
 
 same-length-3 : tie.Need-same-length-3
-same-length-3 c = omega (arith, c .before .before .before .before .before .before .before .before .step5 .kept, c .before .before .before .before .before .before .before .before .before .before .before .before .before .before .before .before .before .before .before .before .before .step4 .kept, c .before .before .before .before .before .before .before .before .before .before .before .before .before .before .before .before .before .before .before .before .before .before .before .before .before .before .before .before .before .before .before .before .before .before .step3 .kept, c .before .before .before .before .before .before .before .before .before .before .before .before .before .before .before .before .before .before .before .before .before .before .before .before .before .before .before .before .before .before .before .before .before .before .before .before .before .before .before .before .before .before .before .before .before .before .before .step2 .kept, c .before .before .before .before .before .before .before .before .before .before .before .before .before .before .before .before .before .before .before .before .before .before .before .before .before .before .before .before .before .before .before .before .before .before .before .before .before .before .before .before .before .before .before .before .before .before .before .before .before .before .before .before .before .before .before .before .before .before .before .before .step .kept)
+same-length-3 c =
+    let d = c .before .before .before .before .before .before .before .before in
+    let e = d .before .before .before .before .before .before .before .before .before .before .before .before .before in
+    let f = e .before .before .before .before .before .before .before .before .before .before .before .before .before in
+    let g = f .before .before .before .before .before .before .before .before .before .before .before .before .before in
+    let h = g .before .before .before .before .before .before .before .before .before .before .before .before .before in
+    omega (arith, d .step5 .kept, e .step4 .kept, f .step3 .kept, g .step2 .kept, h .step .kept)
 
 same-length-4 : tie.Need-same-length-4
-same-length-4 c = omega (arith, c .before .before .before .before .before .before .before .before .step5 .kept, c .before .before .before .before .before .before .before .before .before .before .before .before .before .before .before .before .before .before .before .before .before .step4 .kept, c .before .before .before .before .before .before .before .before .before .before .before .before .before .before .before .before .before .before .before .before .before .before .before .before .before .before .before .before .before .before .before .before .before .before .step3 .kept, c .before .before .before .before .before .before .before .before .before .before .before .before .before .before .before .before .before .before .before .before .before .before .before .before .before .before .before .before .before .before .before .before .before .before .before .before .before .before .before .before .before .before .before .before .before .before .before .step2 .kept, c .before .before .before .before .before .before .before .before .before .before .before .before .before .before .before .before .before .before .before .before .before .before .before .before .before .before .before .before .before .before .before .before .before .before .before .before .before .before .before .before .before .before .before .before .before .before .before .before .before .before .before .before .before .before .before .before .before .before .before .before .step .kept)
+same-length-4 c =
+    let d = c .before .before .before .before .before .before .before .before in
+    let e = d .before .before .before .before .before .before .before .before .before .before .before .before .before in
+    let f = e .before .before .before .before .before .before .before .before .before .before .before .before .before in
+    let g = f .before .before .before .before .before .before .before .before .before .before .before .before .before in
+    let h = g .before .before .before .before .before .before .before .before .before .before .before .before .before in
+    omega (arith, d .step5 .kept, e .step4 .kept, f .step3 .kept, g .step2 .kept, h .step .kept)
 
 returns : tie.Need-returns
 returns c = search needs

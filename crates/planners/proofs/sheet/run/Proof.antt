@@ -38,7 +38,8 @@ same-length-5 c = search needs
 returns : tie.Need-returns
 returns c =
     let d = c .before .before .before .before .before in
-    let e = d .before .before .before .before .before .before .before .before .before .before .before .before .before .before in
+    let lent = d .before .before .before .before .before .before .before in
+    let e = lent .before .before .before .before .before .before .before in
     left-text _ _ _ _ _ _ _ _ _ (e .state-after .ensures) (d .write-text .ensures) _ (c .before .wrote .given .1)
 
 same-length-6 : tie.Need-same-length-6
@@ -59,8 +60,10 @@ same-length-10 c = search needs
 returns-2 : tie.Need-returns-2
 returns-2 c =
     let d = c .before .before .before .before .before .before .before .before .before in
-    let e = d .before .before .before .before .before .before .before .before .before .before .before .before .before .before in
-    left-refused _ _ _ _ _ _ _ _ _ (e .state-after .ensures) (d .write-text .ensures) _ _ (c .before .before .before .before .before .wrote2 .given .1) (c .before .before .put-refused .ensures)
+    let lent = d .before .before .before .before .before .before .before in
+    let e = lent .before .before .before .before .before .before .before in
+    left-refused _ _ _ _ _ _ _ _ _ (e .state-after .ensures) (d .write-text .ensures) _ _
+    (c .before .before .before .before .before .wrote2 .given .1) (c .before .before .put-refused .ensures)
 
 pub run-spec : {M : Type 1} → statement M
 run-spec =

@@ -3,6 +3,7 @@
 use native.Mathlib.Omega.{arith}
 use mathlib.Core.Path.{refl}
 use Rattle.qhs.specs.Parts.{part-length}
+use Rattle.play.specs.Play.{cellRoom, directoryRoom, poolRoom}
 use Rattle.play.specs.Fills.{filled-is}
 use Rattle.planners.proofs.SheetLaws.{left-filled}
 use borrow.Author.Needs.{needs}
@@ -25,25 +26,25 @@ array-borrow-prefix-readings : tie.Need-array-borrow-prefix-readings
 array-borrow-prefix-readings c = search needs
 
 slice-aggregate-run : tie.Need-slice-aggregate-run
-slice-aggregate-run c = part-length _ 2040 _ (omega arith)
+slice-aggregate-run c = part-length _ cellRoom _ (omega arith)
 
 array-borrow-prefix-links : tie.Need-array-borrow-prefix-links
 array-borrow-prefix-links c = search needs
 
 slice-aggregate-run-2 : tie.Need-slice-aggregate-run-2
-slice-aggregate-run-2 c = part-length _ 2040 _ (omega arith)
+slice-aggregate-run-2 c = part-length _ cellRoom _ (omega arith)
 
 array-borrow-prefix-directory : tie.Need-array-borrow-prefix-directory
 array-borrow-prefix-directory c = search needs
 
 slice-aggregate-run-3 : tie.Need-slice-aggregate-run-3
-slice-aggregate-run-3 c = part-length _ 272 _ (omega arith)
+slice-aggregate-run-3 c = part-length _ directoryRoom _ (omega arith)
 
 array-borrow-prefix-pool : tie.Need-array-borrow-prefix-pool
 array-borrow-prefix-pool c = search needs
 
 slice-aggregate-run-4 : tie.Need-slice-aggregate-run-4
-slice-aggregate-run-4 c = part-length _ 8192 _ (omega arith)
+slice-aggregate-run-4 c = part-length _ poolRoom _ (omega arith)
 
 run-requires : tie.Need-run-requires
 run-requires c κs = search needs
@@ -57,7 +58,8 @@ returns c =
     let e = d .before .before .before .before .before .before in
     let s = e .before .before .before .before .before in
     left-filled _ _ (s .args .h) _ _ _
-    (filled-is (s .args .h) 2040 272 8192 _ _ (s .pre .p-high) (s .pre .m-high) refl refl refl (e .before .directory-words .ensures) (e .pool-words .ensures))
+    (filled-is (s .args .h) cellRoom directoryRoom poolRoom _ _ (s .pre .p-high) (s .pre .m-high) refl refl refl (e .before .directory-words .ensures)
+    (e .pool-words .ensures))
     (d .run .ensures)
 
 pub schedule-spec : {M : Type 1} → statement M

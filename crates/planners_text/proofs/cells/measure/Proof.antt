@@ -12,7 +12,7 @@ abbrev Inv-loop : tie.InvT-loop
 Inv-loop s readings links directory pool total₀ i₀ total i = Measuring s (memory readings links directory pool) total i
 
 abbrev μ-loop : tie.MeasureT-loop
-μ-loop s readings links directory pool total₀ i₀ total i = s .m - i
+μ-loop s readings links directory pool total₀ i₀ total i = s .terms .m - i
 
 loop-holds : tie.Need-loop-holds Inv-loop μ-loop
 loop-holds c = search (measuring-start)

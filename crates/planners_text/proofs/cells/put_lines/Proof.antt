@@ -12,7 +12,7 @@ abbrev Inv-loop : tie.InvT-loop
 Inv-loop s readings links directory pool start out₀ at₀ i₀ out at i = Laying s (memory readings links directory pool) start out₀ out at i
 
 abbrev μ-loop : tie.MeasureT-loop
-μ-loop s readings links directory pool start out₀ at₀ i₀ out at i = s .m - i
+μ-loop s readings links directory pool start out₀ at₀ i₀ out at i = s .terms .m - i
 
 loop-holds : tie.Need-loop-holds Inv-loop μ-loop
 loop-holds c = search (laying-start)

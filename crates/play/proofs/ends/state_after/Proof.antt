@@ -6,7 +6,7 @@ use native.Mathlib.Omega.{arith}
 use borrow.Author.Needs.{needs}
 use lib.ListN.{length}
 use Rattle.steps.specs.Memory.{memory}
-use Rattle.play.specs.Play.{world}
+use Rattle.acts.specs.Worlds.{world}
 use Rattle.play.specs.Inner.{listRecords}
 use Rattle.play.proofs.ListLaws.{count-fits, count-less}
 use Rattle.play.proofs.EndLaws.{Ending, ending-start, ending-short, ending-next, ending-end}
@@ -16,11 +16,17 @@ use Rattle.play.proofs.ends.state_after.Tie as tie
 abbrev Inv-loop : tie.InvT-loop
 Inv-loop bytes n readings₀ links₀ directory₀ pool₀ s₀ words₀ k₀ readings links directory pool s words k =
     Ending bytes n (world s₀ (memory readings₀ links₀ directory₀ pool₀)) (world s (memory readings links directory pool)) k
-    × ((listRecords ≡ length words) × ((length readings ≡ length readings₀) × ((length links ≡ length links₀) × ((length directory ≡ length directory₀) × (length pool ≡ length pool₀)))))
+    × ((listRecords ≡ length words)
+    × ((length readings ≡ length readings₀)
+    × ((length links ≡ length links₀)
+    × ((length directory ≡ length directory₀) × (length pool ≡ length pool₀)))))
 
 abbrev μ-loop : tie.MeasureT-loop
 μ-loop bytes n readings₀ links₀ directory₀ pool₀ s₀ words₀ k₀ readings links directory pool s words k =
     n - k
+
+terms-of-requires : tie.Need-terms-of-requires Inv-loop μ-loop
+terms-of-requires c κs = search needs
 
 open-requires : tie.Need-open-requires Inv-loop μ-loop
 open-requires c κs = search needs
@@ -44,21 +50,26 @@ played-requires c κs =
 
 add-k : tie.Need-add-k Inv-loop μ-loop
 add-k c =
-    let d = c .before .before .before .before .before .before .before .before .before .before .before .before .before .before .before in
+    let far = c .before .before .before .before .before .before .before .before in
+    let d = far .before .before .before .before .before .before .before in
     let fits = count-fits _ _ _ (d .before .loop-test .taken) (d .count .ensures) (search needs) in
     omega (arith, fits)
 
 loop-less : tie.Need-loop-less Inv-loop μ-loop
 loop-less c =
-    let d = c .before .before .before .before .before .before .before .before .before .before .before .before .before .before .before in
+    let far = c .before .before .before .before .before .before .before .before in
+    let d = far .before .before .before .before .before .before .before in
     count-less _ _ _ (d .before .loop-test .taken) (d .count .ensures)
 
 loop-again : tie.Need-loop-again Inv-loop μ-loop
 loop-again c =
-    let d = c .before .before .before .before .before .before .before .before .before in
+    let far = c .before .before .before .before .before in
+    let d = far .before .before .before .before in
     let e = d .before .before .before .before .before .before in
-    let inv = e .before .before .loop .inv in
-    (ending-next _ _ _ _ _ _ _ (inv .0) (e .before .loop-test .taken) (e .count .ensures) _ (d .played .ensures _ (inv .0 .is)), (search needs, (search needs, (search needs, (search needs, search needs)))))
+    let inv = e .before .before .loop .inv in (
+      ending-next _ _ _ _ _ _ _ (inv .0) (e .before .loop-test .taken) (e .count .ensures) _ (d .played .ensures _ (inv .0 .is)),
+      (search needs, (search needs, (search needs, (search needs, search needs)))),
+    )
 
 same-length : tie.Need-same-length Inv-loop μ-loop
 same-length c = search needs
@@ -81,6 +92,7 @@ state-after-spec =
     (tie.spec
     Inv-loop
     μ-loop
+    terms-of-requires
     open-requires
     loop-holds
     sub-count

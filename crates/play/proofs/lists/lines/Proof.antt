@@ -45,7 +45,11 @@ loop-again : tie.Need-loop-again Inv-loop μ-loop
 loop-again c =
     let d = c .before .before .before .before .before in
     let e = d .before .before in
-    (omega arith, lines-next _ _ _ _ _ _ _ _ _ _ _ _ (e .before .before .before .before .pre) (e .loop-test .taken) (e .before .loop .inv .1) (d .answer-of .ensures) (c .before .before .before .put-answer .ensures .0) (c .before .before .before .put-answer .ensures .1) (c .end-of .ensures))
+    let line = c .before .before .before .put-answer .ensures in (
+      omega arith,
+      lines-next _ _ _ _ _ _ _ _ _ _ _ _ (e .before .before .before .before .pre) (e .loop-test .taken) (e .before .loop .inv .1)
+          (d .answer-of .ensures) (line .0) (line .1) (c .end-of .ensures),
+    )
 
 same-length : tie.Need-same-length Inv-loop μ-loop
 same-length c = lines-sized _ _ _ _ _ _ _ _ (c .before .before .before .before .pre) (c .before .loop .inv .0) (c .before .loop .inv .1)

@@ -9,7 +9,8 @@ use Rattle.play.proofs.lists.played.Statement.{statement}
 use Rattle.play.proofs.lists.played.Tie as tie
 
 abbrev Inv-loop : tie.InvT-loop
-Inv-loop bytes first c s words readings links directory pool kinds₀ processes₀ cells₀ values₀ i₀ kinds processes cells values i = Filling bytes first c i kinds processes cells values
+Inv-loop bytes first c s words readings links directory pool kinds₀ processes₀ cells₀ values₀ i₀ kinds processes cells values i =
+    Filling bytes first c i kinds processes cells values
 
 abbrev μ-loop : tie.MeasureT-loop
 μ-loop bytes first c s words readings links directory pool kinds₀ processes₀ cells₀ values₀ i₀ kinds processes cells values i = c - i
@@ -38,9 +39,6 @@ mul-processes c = omega arith
 array-write-processes : tie.Need-array-write-processes Inv-loop μ-loop
 array-write-processes c = omega arith
 
-cast-cells : tie.Need-cast-cells Inv-loop μ-loop
-cast-cells c = search needs
-
 mul-cells : tie.Need-mul-cells Inv-loop μ-loop
 mul-cells c = omega arith
 
@@ -61,9 +59,10 @@ loop-less c = omega arith
 
 loop-again : tie.Need-loop-again Inv-loop μ-loop
 loop-again c =
-    let d = c .before .before .before in
+    let d = c .before .before in
     let e = d .before in
-    filling-more _ _ _ _ _ _ _ _ _ _ (e .before .before .before .before .before .before .before .before .pre .few) (e .loop-test .taken) (e .before .loop .inv) (d .record-at .ensures) (c .before .before .kind-of .ensures)
+    let start = e .before .before .before .before .before .before .before .before in
+    filling-more _ _ _ _ _ _ _ _ _ _ (start .pre .few) (e .loop-test .taken) (e .before .loop .inv) (d .record-at .ensures) (c .before .kind-of .ensures)
 
 array-share-prefix-kinds : tie.Need-array-share-prefix-kinds Inv-loop μ-loop
 array-share-prefix-kinds c = search needs
@@ -102,7 +101,8 @@ returns : tie.Need-returns Inv-loop μ-loop
 returns c =
     let d = c .before .before .before .before .before .before .before .before .before .before in
     let e = d .before .before .before .before .before .before .before .before .before .before in
-    played-is _ _ _ _ _ _ _ _ _ _ _ _ _ _ (e .before .before .before .before .before .before .before .before .pre) (e .loop-test .left) (e .before .loop .inv) (d .run .ensures .0) (d .run .ensures .1)
+    let start = e .before .before .before .before .before .before .before .before in
+    played-is _ _ _ _ _ _ _ _ _ _ _ _ _ _ (start .pre) (e .loop-test .left) (e .before .loop .inv) (d .run .ensures .0) (d .run .ensures .1)
 
 pub played-spec : {M : Type 1} → statement M
 played-spec =
@@ -118,7 +118,6 @@ played-spec =
     cast-processes
     mul-processes
     array-write-processes
-    cast-cells
     mul-cells
     array-write-cells
     mul-values

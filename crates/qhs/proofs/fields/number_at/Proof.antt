@@ -21,11 +21,11 @@ sub-i c = omega arith
 mul-n : tie.Need-mul-n Inv-loop μ-loop
 mul-n c = omega (arith, room _ _ _ _ _ (c .before .loop .inv) (search needs) (search needs))
 
-add-wide : tie.Need-add-wide Inv-loop μ-loop
-add-wide c = omega (arith, c .before .loop .inv .left)
+add-byte-at : tie.Need-add-byte-at Inv-loop μ-loop
+add-byte-at c = omega (arith, c .before .loop .inv .left)
 
-shared-slice-read-wide : tie.Need-shared-slice-read-wide Inv-loop μ-loop
-shared-slice-read-wide c = omega (arith, c .before .before .loop .inv .left)
+byte-at-requires : tie.Need-byte-at-requires Inv-loop μ-loop
+byte-at-requires c κs = search needs
 
 wide-requires : tie.Need-wide-requires Inv-loop μ-loop
 wide-requires c κs = search needs
@@ -37,10 +37,10 @@ loop-less : tie.Need-loop-less Inv-loop μ-loop
 loop-less c = omega arith
 
 loop-again : tie.Need-loop-again Inv-loop μ-loop
-loop-again c = gathered-next _ _ _ _ _ _ (c .before .before .before .loop .inv) (search needs) (c .wide .ensures .0) (c .wide .ensures .1)
+loop-again c = search (gathered-next)
 
 returns : tie.Need-returns Inv-loop μ-loop
-returns c = (gathered-all _ _ _ _ _ (c .before .loop .inv) (search needs), gathered-below _ _ _ _ _ (c .before .loop .inv) (search needs))
+returns c = search (gathered-all, gathered-below)
 
 pub number-at-spec : {M : Type 1} → statement M
 number-at-spec =
@@ -51,8 +51,8 @@ number-at-spec =
     loop-holds
     sub-i
     mul-n
-    add-wide
-    shared-slice-read-wide
+    add-byte-at
+    byte-at-requires
     wide-requires
     add-n
     loop-less

@@ -1,7 +1,7 @@
 -- `rewrite::again::gather` meets its contract.
 -- Assumes nothing.
 use Prim.Native.Nat.{_-_}
-use Rattle.rewrite.proofs.AgainLaws.{Gathered, gathered-none, gathered-next, gathered-all}
+use Rattle.rewrite.proofs.AgainLaws.{cell-fits, Gathered, gathered-none, gathered-next, gathered-all}
 use native.Mathlib.Omega.{arith}
 use borrow.Author.Needs.{needs}
 use Rattle.rewrite.proofs.again.gather.Statement.{statement}
@@ -24,6 +24,11 @@ slice-write-kinds c = omega arith
 
 slice-write-processes : tie.Need-slice-write-processes Inv-loop μ-loop
 slice-write-processes c = omega arith
+
+cast-cells : tie.Need-cast-cells Inv-loop μ-loop
+cast-cells c =
+    let d = c .before .before .before .before .before .before .before .before in
+    omega (arith, cell-fits _ _ (c .before .record-at .result) (λ i. omega (arith, d .shared-slice-known .given i)) (c .before .record-at .ensures))
 
 mul-cells : tie.Need-mul-cells Inv-loop μ-loop
 mul-cells c = omega arith
@@ -71,6 +76,7 @@ gather-spec =
     record-at-requires
     slice-write-kinds
     slice-write-processes
+    cast-cells
     mul-cells
     slice-write-cells
     mul-values

@@ -1,5 +1,6 @@
 -- `rewrite::again::schedule` meets its contract.
 -- Assumes nothing.
+use Rattle.qhs.specs.Qhs.{mostRecords}
 use Rattle.qhs.specs.Parts.{part-length}
 use Rattle.rewrite.proofs.AgainLaws.{room-for}
 use native.Mathlib.Omega.{arith}
@@ -11,28 +12,28 @@ array-borrow-prefix-kinds : tie.Need-array-borrow-prefix-kinds
 array-borrow-prefix-kinds c = search needs
 
 slice-aggregate-run : tie.Need-slice-aggregate-run
-slice-aggregate-run c = part-length _ 8189 _ (omega arith)
+slice-aggregate-run c = part-length _ mostRecords _ (omega arith)
 
 array-borrow-prefix-processes : tie.Need-array-borrow-prefix-processes
 array-borrow-prefix-processes c = search needs
 
 slice-aggregate-run-2 : tie.Need-slice-aggregate-run-2
-slice-aggregate-run-2 c = part-length _ 8189 _ (omega arith)
+slice-aggregate-run-2 c = part-length _ mostRecords _ (omega arith)
 
 array-borrow-prefix-cells : tie.Need-array-borrow-prefix-cells
 array-borrow-prefix-cells c = search needs
 
 slice-aggregate-run-3 : tie.Need-slice-aggregate-run-3
-slice-aggregate-run-3 c = part-length _ 8189 _ (omega arith)
+slice-aggregate-run-3 c = part-length _ mostRecords _ (omega arith)
 
 array-borrow-prefix-values : tie.Need-array-borrow-prefix-values
 array-borrow-prefix-values c = search needs
 
 slice-aggregate-run-4 : tie.Need-slice-aggregate-run-4
-slice-aggregate-run-4 c = part-length _ 8189 _ (omega arith)
+slice-aggregate-run-4 c = part-length _ mostRecords _ (omega arith)
 
 run-requires : tie.Need-run-requires
-run-requires c κs = room-for _ 8189 (omega arith)
+run-requires c κs = room-for _ mostRecords (omega arith)
 
 same-length : tie.Need-same-length
 same-length c = search needs

@@ -8,8 +8,11 @@ use Rattle.steps.proofs.look.check.Tie as tie
 enum-told : tie.Need-enum-told
 enum-told c = search needs
 
-link-requires : tie.Need-link-requires
-link-requires c κs = search needs
+index-of-requires : tie.Need-index-of-requires
+index-of-requires c κs = search needs
+
+wide-requires : tie.Need-wide-requires
+wide-requires c κs = search needs
 
 check-link-requires : tie.Need-check-link-requires
 check-link-requires c κs = search needs
@@ -41,6 +44,9 @@ place-of-requires-2 c κs = search needs
 pool-word-requires : tie.Need-pool-word-requires
 pool-word-requires c κs = search needs
 
+mark-of-requires : tie.Need-mark-of-requires
+mark-of-requires c κs = search needs
+
 check-mark-requires : tie.Need-check-mark-requires
 check-mark-requires c κs = search needs
 
@@ -61,7 +67,8 @@ check-spec =
     tie.close
     (tie.spec
     enum-told
-    link-requires
+    index-of-requires
+    wide-requires
     check-link-requires
     enum-known-c
     check-marks-requires
@@ -72,6 +79,7 @@ check-spec =
     enum-known-c-3
     place-of-requires-2
     pool-word-requires
+    mark-of-requires
     check-mark-requires
     returns
     returns-2

@@ -11,20 +11,14 @@ enum-told c = search needs
 enum-known-change : tie.Need-enum-known-change
 enum-known-change c = search needs
 
-cast-put : tie.Need-cast-put
-cast-put c = search needs
-
 put-requires : tie.Need-put-requires
 put-requires c κs = search needs
 
 enum-known-change-2 : tie.Need-enum-known-change-2
 enum-known-change-2 c = search needs
 
-cast-put-link : tie.Need-cast-put-link
-cast-put-link c = search needs
-
-put-link-requires : tie.Need-put-link-requires
-put-link-requires c κs = search needs
+put-wide-requires : tie.Need-put-wide-requires
+put-wide-requires c κs = search needs
 
 enum-known-change-3 : tie.Need-enum-known-change-3
 enum-known-change-3 c = search needs
@@ -83,11 +77,9 @@ store-spec =
     (tie.spec
     enum-told
     enum-known-change
-    cast-put
     put-requires
     enum-known-change-2
-    cast-put-link
-    put-link-requires
+    put-wide-requires
     enum-known-change-3
     put-requires-2
     enum-known-change-4

@@ -1,6 +1,6 @@
 -- `turns::write::checked_turn` meets its contract.
 -- Assumes nothing.
-use Rattle.turns.proofs.WriteLaws.{checked-not, checked-arm}
+use Rattle.turns.proofs.WriteLaws.{checked-arm, checked-not}
 use borrow.Author.Needs.{needs}
 use Rattle.turns.proofs.write.checked_turn.Statement.{statement}
 use Rattle.turns.proofs.write.checked_turn.Tie as tie
@@ -17,8 +17,8 @@ goes-requires c κs = search needs
 enum-known-found-2 : tie.Need-enum-known-found-2
 enum-known-found-2 c = search needs
 
-stage-at-requires : tie.Need-stage-at-requires
-stage-at-requires c κs = search needs
+marking-at-requires : tie.Need-marking-at-requires
+marking-at-requires c κs = search needs
 
 goes-requires-2 : tie.Need-goes-requires-2
 goes-requires-2 c κs = search needs
@@ -46,7 +46,7 @@ checked-turn-spec =
     enum-known-found
     goes-requires
     enum-known-found-2
-    stage-at-requires
+    marking-at-requires
     goes-requires-2
     enum-told-2
     returns

@@ -14,9 +14,13 @@ directory-word-requires c κs = search needs
 entered-requires : tie.Need-entered-requires
 entered-requires c κs = search needs
 
+marks-requires : tie.Need-marks-requires
+marks-requires c κs = search needs
+
 returns : tie.Need-returns
 returns c = search (enter-is)
 
 pub enter-turn-spec : {M : Type 1} → statement M
 enter-turn-spec =
-    tie.close (tie.spec segment-of-requires directory-word-requires entered-requires returns)
+    tie.close
+    (tie.spec segment-of-requires directory-word-requires entered-requires marks-requires returns)

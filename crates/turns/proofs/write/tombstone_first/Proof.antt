@@ -5,8 +5,8 @@ use borrow.Author.Needs.{needs}
 use Rattle.turns.proofs.write.tombstone_first.Statement.{statement}
 use Rattle.turns.proofs.write.tombstone_first.Tie as tie
 
-pack-requires : tie.Need-pack-requires
-pack-requires c κs = search needs
+link-of-requires : tie.Need-link-of-requires
+link-of-requires c κs = search needs
 
 returns : tie.Need-returns
 returns c = search (is-own)
@@ -15,4 +15,4 @@ returns-2 : tie.Need-returns-2
 returns-2 c = search (is-other)
 
 pub tombstone-first-spec : {M : Type 1} → statement M
-tombstone-first-spec = tie.close (tie.spec pack-requires returns returns-2)
+tombstone-first-spec = tie.close (tie.spec link-of-requires returns returns-2)

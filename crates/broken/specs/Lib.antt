@@ -1,0 +1,5 @@
+pub mod Histories
+pub mod Mistakes
+pub mod Lost
+pub mod Tight
+pub mod Shams

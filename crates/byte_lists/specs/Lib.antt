@@ -1,0 +1,5 @@
+pub mod Bytes
+pub mod Digits
+pub mod Decimals
+pub mod Places
+pub mod Lines

@@ -1,0 +1,57 @@
+// Reads call vectors from standard input, makes each call, and writes what it gave back.
+mod four;
+mod input;
+mod limits;
+mod make;
+mod memories;
+mod nine;
+mod out;
+mod page;
+mod run;
+mod show;
+mod vector;
+mod words;
+
+use libc::STDOUT_FILENO;
+use limits::CELL_WORDS;
+use limits::DIRECTORY_WORDS;
+use limits::INPUT;
+use limits::POOL_WORDS;
+
+// The calls of an input of so many bytes.
+fn work(words: &[u64], bytes: usize) {
+    let mut readings = [0u32; CELL_WORDS];
+    let mut links = [0u64; CELL_WORDS];
+    let mut directory = [0u32; DIRECTORY_WORDS];
+    let mut pool = [0u32; POOL_WORDS];
+    let mut buf = io::large_buffer();
+    run::all(
+        words,
+        words_of(bytes),
+        &mut readings,
+        &mut links,
+        &mut directory,
+        &mut pool,
+        &mut buf,
+    );
+}
+
+// How many words so many bytes are; the last may be cut.
+fn words_of(bytes: usize) -> usize {
+    if bytes % 8 == 0 {
+        bytes / 8
+    } else {
+        bytes / 8 + 1
+    }
+}
+
+fn main() {
+    let mut words = [0u64; INPUT];
+    let bytes = input::take(&mut words);
+    if bytes <= 8 * INPUT {
+        let n = bytes / 8;
+        work(&words[..n], bytes);
+    } else {
+        io::write_all(STDOUT_FILENO, b"input over 1048576 bytes\n");
+    }
+}
