@@ -60,9 +60,9 @@ RefusedStep =
     (s : State) (q : ℕ) (mem : Memory) (r : Refusal) → stepOf s q mem .stepped .answer ≡ Answer.Refused r
     → (stepOf s q mem .stepped .state ≡ s) × (stepOf s q mem .memory ≡ mem)
 
--- ONE WORD: a step changes at most one shared word (with the pool's top goes the count of drawn segments) and nothing of another lane.
-pub record Changed (q : ℕ) (s s′ : State) (mem mem′ : Memory) : Type 0 where
-  pub word : Word
+-- ONE WORD: a step changes at most the one shared word that it touches (with the pool's top goes the count of drawn segments) and
+-- nothing of another lane.
+pub record Changed (q : ℕ) (word : Word) (s s′ : State) (mem mem′ : Memory) : Type 0 where
   pub others : (w : Word) → w ≢ word → wordAt s′ mem′ w ≡ wordAt s mem w
   pub drawn : word ≢ Word.Top → laneOf s′ q .drawn ≡ laneOf s q .drawn
   pub lanes : (r : ℕ) → r ≢ q → laneOf s′ r ≡ laneOf s r
@@ -71,7 +71,9 @@ pub record Changed (q : ℕ) (s s′ : State) (mem mem′ : Memory) : Type 0 whe
       × (length (mem′ .directory) ≡ length (mem .directory)) × (length (mem′ .pool) ≡ length (mem .pool))
 
 abbrev pub ChangesOneWord : Type 0
-ChangesOneWord = (s : State) (q : ℕ) (mem : Memory) → Changed q s (stepOf s q mem .stepped .state) mem (stepOf s q mem .memory)
+ChangesOneWord =
+    (s : State) (q : ℕ) (mem : Memory)
+    → Changed q (touched (s .terms) q (mem .directory) (laneOf s q .op)) s (stepOf s q mem .stepped .state) mem (stepOf s q mem .memory)
 
 -- ONE SIGHT: a step sees one shared word. Two worlds that agree on it, on the process's own lane, on p and the fill rule, on the pool's length
 -- and, in rules 3 to 8, on its own directory words, have the same turn. (The number of cells has no part in it.)
