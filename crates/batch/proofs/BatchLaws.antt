@@ -20,11 +20,12 @@ use Rattle.numbers.specs.declared.Terms.{Terms}
 use Rattle.steps.specs.declared.Turn.{Turn}
 use Rattle.steps.specs.Inner.{handed}
 use Rattle.steps.specs.Steps.{turnOf}
+use Rattle.lanes.specs.declared.Check.the-variants as Check
 use Rattle.lanes.specs.declared.Op.{Op}
+use Rattle.lanes.specs.declared.Op.the-variants as Op
 use Rattle.steps.specs.Memory.{Memory, memory}
 use Rattle.acts.specs.declared.Acted.{Acted}
 use Rattle.acts.specs.declared.Stepped.{Stepped}
-use Rattle.acts.specs.declared.Ask.{Ask}
 use Rattle.acts.specs.declared.Ask.the-variants as Ask
 use Rattle.acts.specs.Calls.{cellOf, opOf, Outcome, outcome, Effect, effect, steppedAs, begunOf, beginOf, actOf, verdictOf, stepOf}
 use Rattle.acts.specs.Inner.{laneAt, changes, named}
@@ -40,20 +41,20 @@ pub maybe-beginning : (kind : ℕ) → 1 ≤ kind → leb kind 3 ≡ beginning k
 maybe-beginning kind h = simp (le-leb _ _ h)
 
 module _ (kind : ℕ) (i : Cell) (v : ℕ) where
-  pub ask-read : kind ≡ 1 → Ask.Read i ≡ askOf kind i v
-  ask-read h = simp (eq-eqb _ _ h)
+  pub op-read : kind ≡ 1 → Op.Read i Check.Link ≡ opOf (askOf kind i v)
+  op-read h = simp (eq-eqb _ _ h)
 
-  pub ask-write : (kind ≡ 1 → ⊥) → kind ≡ 2 → Ask.Write i v ≡ askOf kind i v
-  ask-write h k = simp (ne-eqb _ _ h, eq-eqb _ _ k)
+  pub op-write : (kind ≡ 1 → ⊥) → kind ≡ 2 → Op.Store i v ≡ opOf (askOf kind i v)
+  op-write h k = simp (ne-eqb _ _ h, eq-eqb _ _ k)
 
-  pub ask-asked : (kind ≡ 1 → ⊥) → (kind ≡ 2 → ⊥) → Ask.Asked i ≡ askOf kind i v
-  ask-asked h k = simp (ne-eqb _ _ h, ne-eqb _ _ k)
+  pub op-asked : (kind ≡ 1 → ⊥) → (kind ≡ 2 → ⊥) → Op.Asked i Check.Link ≡ opOf (askOf kind i v)
+  op-asked h k = simp (ne-eqb _ _ h, ne-eqb _ _ k)
 
 module _ (fits : Bool) (z : Terms) (top q : ℕ) (l : Lane) (seen kind : ℕ) (i : Cell) (v : ℕ) (mem : Memory) (b : Acted)
     (r : Bool) (e : r ≡ beginning kind) where
-  pub entry-begun : (a : Ask) (o : Op) → r ≡ true → a ≡ askOf kind i v → o ≡ opOf a → b ≡ begunOf fits z top q l i o
+  pub entry-begun : (o : Op) → r ≡ true → o ≡ opOf (askOf kind i v) → b ≡ begunOf fits z top q l i o
       → effect b mem ≡ entryOf fits z top q l seen kind i v mem
-  entry-begun a o h f d g = rw (sym e ∙ h) (rw (g, d, f))
+  entry-begun o h d g = rw (sym e ∙ h) (rw (g, d))
 
   pub entry-step : (mem′ : Memory) → r ≡ false → effect b mem′ ≡ actOf fits z top q l mem (turnOf z top q l (handed seen) mem)
       → effect b mem′ ≡ entryOf fits z top q l seen kind i v mem

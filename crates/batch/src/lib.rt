@@ -3,14 +3,15 @@ ghost use mathlib.Core.Path.{_≡_};
 ghost use Prim.Native.Nat.{_<_};
 ghost use Rattle.lanes.specs.Ranges.{stateFits};
 ghost use Rattle.steps.specs.Memory.{memory};
-ghost use Rattle.acts.specs.Calls.{effect};
+ghost use Rattle.acts.specs.Calls.{opOf, effect};
 ghost use Rattle.acts.specs.Inner.{Judged};
 ghost use Rattle.batch.specs.Batch.{bit, countOf, codeWith, codeOf, answerOf, beginning, askOf, entryOf, batch, entries, batchOf, Told};
 use acts::Acted;
 use acts::Answer;
-use acts::Ask;
 use acts::begins;
+use lanes::Check;
 use lanes::Lane;
+use lanes::Op;
 use lanes::State;
 use numbers::Cell;
 use numbers::Mark;
@@ -88,16 +89,17 @@ fn beginning(kind: u8) -> bool
     if kind < 1 { false } else { kind <= 3 }
 }
 
-fn ask_of(kind: u8, i: Cell, v: u32) -> Ask
-    ensures { λ r. ⌜ r ≡ askOf kind i v ⌝ }
+// The first stage of what an entry asks, with no ask made first.
+fn op_of(kind: u8, i: Cell, v: u32) -> Op
+    ensures { λ r. ⌜ r ≡ opOf (askOf kind i v) ⌝ }
 {
     if kind == 1 {
-        return Ask::Read(i);
+        return Op::Read(i, Check::Link);
     }
     if kind == 2 {
-        return Ask::Write(i, v);
+        return Op::Store(i, v);
     }
-    Ask::Asked(i)
+    Op::Asked(i, Check::Link)
 }
 
 // One entry: a begin of the kinds 1 to 3, else a step.
@@ -120,7 +122,7 @@ fn entry(
     ensures { λ r. ⌜ effect r (memory (now (readings .exit)) (now (links .exit)) (now (directory .exit)) (now (pool .exit))) ≡ entryOf fits z top (q .0) l seen kind i v (memory (now (readings .entry)) (now (links .entry)) (now (directory .entry)) (now (pool .entry))) ⌝ }
 {
     if beginning(kind) {
-        let o = begins::op_of(ask_of(kind, i, v));
+        let o = op_of(kind, i, v);
         return begins::begun(fits, z, top, q, l, i, o);
     }
     judged::act(fits, z, top, q, l, seen, readings, links, directory, pool)

@@ -32,13 +32,12 @@ pub fn open(z: Terms, readings: &[u32], links: &[u64], directory: &[u32], pool: 
     }
 }
 
-// Begins an operation of process q. The state is copied once, into `t`, and changed there.
+// Begins an operation of process q. The state is copied once, into `t`, and changed there. The lane is taken after the look at
+// all of them, which spares holding it until then.
 pub fn begin(s: State, q: Process, a: Ask) -> Stepped
     ensures { λ r. ⌜ r ≡ beginOf s (q .0) a ⌝ }
 {
     let mut t = s;
-    let k = begins::lane_of(q);
-    let l = t.lanes[k];
     let z = t.terms;
     let mut fits = lanes::sizes_fit(z, t.top);
     let end = begins::lanes_below(fits, z.p);
@@ -47,6 +46,8 @@ pub fn begin(s: State, q: Process, a: Ask) -> Stepped
         fits = logic::both(fits, lanes::lane_fits(z, t.lanes[i]));
         i = i + 1;
     }
+    let k = begins::lane_of(q);
+    let l = t.lanes[k];
     let cell = begins::cell_of(a);
     let o = begins::op_of(a);
     let b = begins::begun(fits, z, t.top, q, l, cell, o);
@@ -60,8 +61,8 @@ pub fn begin(s: State, q: Process, a: Ask) -> Stepped
     }
 }
 
-// One step of process q. The state is copied once, into `t`, and changed there; no other function takes it. A refusal leaves
-// the lane where it is, which spares holding it until then.
+// One step of process q. The state is copied once, into `t`, and changed there; no other function takes it. The lane is taken
+// late, as in `begin`, and a refusal leaves it where it is.
 pub fn step(
     s: State,
     q: Process,
@@ -73,11 +74,6 @@ pub fn step(
     ensures { λ r. ⌜ outcome r (memory (now (readings .exit)) (now (links .exit)) (now (directory .exit)) (now (pool .exit))) ≡ stepOf s (q .0) (memory (now (readings .entry)) (now (links .entry)) (now (directory .entry)) (now (pool .entry))) ⌝ }
 {
     let mut t = s;
-    let k = begins::lane_of(q);
-    let l = t.lanes[k];
-    let o = l.op;
-    let j = begins::lane_of(judged::named(o));
-    let other = t.lanes[j];
     let z = t.terms;
     let mut fits = lanes::sizes_fit(z, t.top);
     let end = begins::lanes_below(fits, z.p);
@@ -86,6 +82,11 @@ pub fn step(
         fits = logic::both(fits, lanes::lane_fits(z, t.lanes[i]));
         i = i + 1;
     }
+    let k = begins::lane_of(q);
+    let l = t.lanes[k];
+    let o = l.op;
+    let j = begins::lane_of(judged::named(o));
+    let other = t.lanes[j];
     let b = judged::act(
         fits,
         z,

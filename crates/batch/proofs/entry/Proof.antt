@@ -8,9 +8,6 @@ use Rattle.batch.proofs.entry.Tie as tie
 beginning-requires : tie.Need-beginning-requires
 beginning-requires c κs = search needs
 
-ask-of-requires : tie.Need-ask-of-requires
-ask-of-requires c κs = search needs
-
 op-of-requires : tie.Need-op-of-requires
 op-of-requires c κs = search needs
 
@@ -43,7 +40,6 @@ entry-spec =
     tie.close
     (tie.spec
     beginning-requires
-    ask-of-requires
     op-of-requires
     begun-requires
     returns

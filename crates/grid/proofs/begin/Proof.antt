@@ -10,19 +10,10 @@ use Rattle.grid.proofs.begin.Statement.{statement}
 use Rattle.grid.proofs.begin.Tie as tie
 
 abbrev Inv-loop : tie.InvT-loop
-Inv-loop q a t k l z fits₀ end i₀ fits i = (i ≤ end) × Passed t i fits
+Inv-loop q a t z fits₀ end i₀ fits i = (i ≤ end) × Passed t i fits
 
 abbrev μ-loop : tie.MeasureT-loop
-μ-loop q a t k l z fits₀ end i₀ fits i = end - i
-
-lane-of-requires : tie.Need-lane-of-requires Inv-loop μ-loop
-lane-of-requires c κs = search needs
-
-mul-l : tie.Need-mul-l Inv-loop μ-loop
-mul-l c = omega arith
-
-element-copy-out-l : tie.Need-element-copy-out-l Inv-loop μ-loop
-element-copy-out-l c = omega arith
+μ-loop q a t z fits₀ end i₀ fits i = end - i
 
 sizes-fit-requires : tie.Need-sizes-fit-requires Inv-loop μ-loop
 sizes-fit-requires c κs = search needs
@@ -54,8 +45,17 @@ loop-less c = omega arith
 loop-again : tie.Need-loop-again Inv-loop μ-loop
 loop-again c =
     let d = c .before .before .before .before in
-    let s = d .before .before .before .before .before .before .args .s in
+    let s = d .before .before .before .before .args .s in
     (omega arith, passed-more s _ _ _ _ (d .loop .inv .1) (c .before .lane-fits .ensures) (c .both .ensures))
+
+lane-of-requires : tie.Need-lane-of-requires Inv-loop μ-loop
+lane-of-requires c κs = search needs
+
+mul-l : tie.Need-mul-l Inv-loop μ-loop
+mul-l c = omega arith
+
+element-copy-out-l : tie.Need-element-copy-out-l Inv-loop μ-loop
+element-copy-out-l c = omega arith
 
 cell-of-requires : tie.Need-cell-of-requires Inv-loop μ-loop
 cell-of-requires c κs = search needs
@@ -74,14 +74,12 @@ element-set-from-lane c = omega arith
 
 returns : tie.Need-returns Inv-loop μ-loop
 returns c =
-    let b = c .before .before .before in
-    let d = b .before .before in
-    let e = d .before .before in
-    let top = e .before .before .before in
-    let a = top .before .args in
-    let fine = loop-end (a .s) _ _ _ _ (e .sizes-fit .ensures) (d .before .lanes-below .ensures .1) (d .loop .inv .0) (b .before .loop-test .left)
+    let own = c .before .before .before .before .before in
+    let d = own .before .before in
+    let a = d .before .before .before .before .args in
+    let fine = loop-end (a .s) _ _ _ _ (d .before .before .sizes-fit .ensures) (d .before .lanes-below .ensures .1) (d .loop .inv .0) (own .before .loop-test .left)
     (d .loop .inv .1) in
-    begun-is (a .s) _ _ (top .lane-of .ensures .0) _ refl _ (a .a) _ _ _ fine (b .cell-of .ensures) (c .before .before .op-of .ensures)
+    begun-is (a .s) _ _ (own .lane-of .ensures .0) _ refl _ (a .a) _ _ _ fine (c .before .before .before .cell-of .ensures) (c .before .before .op-of .ensures)
     (c .before .begun .ensures)
 
 pub begin-spec : {M : Type 1} → statement M
@@ -90,9 +88,6 @@ begin-spec =
     (tie.spec
     Inv-loop
     μ-loop
-    lane-of-requires
-    mul-l
-    element-copy-out-l
     sizes-fit-requires
     lanes-below-requires
     loop-holds
@@ -103,6 +98,9 @@ begin-spec =
     add-i
     loop-less
     loop-again
+    lane-of-requires
+    mul-l
+    element-copy-out-l
     cell-of-requires
     op-of-requires
     begun-requires

@@ -11,31 +11,10 @@ use Rattle.grid.proofs.step.Statement.{statement}
 use Rattle.grid.proofs.step.Tie as tie
 
 abbrev Inv-loop : tie.InvT-loop
-Inv-loop q readings links directory pool t k l j other z fits₀ end i₀ fits i = (i ≤ end) × Passed t i fits
+Inv-loop q readings links directory pool t z fits₀ end i₀ fits i = (i ≤ end) × Passed t i fits
 
 abbrev μ-loop : tie.MeasureT-loop
-μ-loop q readings links directory pool t k l j other z fits₀ end i₀ fits i = end - i
-
-lane-of-requires : tie.Need-lane-of-requires Inv-loop μ-loop
-lane-of-requires c κs = search needs
-
-mul-l : tie.Need-mul-l Inv-loop μ-loop
-mul-l c = omega arith
-
-element-copy-out-l : tie.Need-element-copy-out-l Inv-loop μ-loop
-element-copy-out-l c = omega arith
-
-named-requires : tie.Need-named-requires Inv-loop μ-loop
-named-requires c κs = search needs
-
-lane-of-requires-2 : tie.Need-lane-of-requires-2 Inv-loop μ-loop
-lane-of-requires-2 c κs = search needs
-
-mul-other : tie.Need-mul-other Inv-loop μ-loop
-mul-other c = omega arith
-
-element-copy-out-other : tie.Need-element-copy-out-other Inv-loop μ-loop
-element-copy-out-other c = omega arith
+μ-loop q readings links directory pool t z fits₀ end i₀ fits i = end - i
 
 sizes-fit-requires : tie.Need-sizes-fit-requires Inv-loop μ-loop
 sizes-fit-requires c κs = search needs
@@ -68,17 +47,38 @@ loop-again : tie.Need-loop-again Inv-loop μ-loop
 loop-again c =
     let d = c .before .before .before .before in
     let e = d .before .before .before .before .before in
-    let s = e .before .before .before .before .before .before .before .before .args .s in
+    let s = e .before .before .before .args .s in
     (omega arith, passed-more s _ _ _ _ (d .loop .inv .1) (c .before .lane-fits .ensures) (c .both .ensures))
+
+lane-of-requires : tie.Need-lane-of-requires Inv-loop μ-loop
+lane-of-requires c κs = search needs
+
+mul-l : tie.Need-mul-l Inv-loop μ-loop
+mul-l c = omega arith
+
+element-copy-out-l : tie.Need-element-copy-out-l Inv-loop μ-loop
+element-copy-out-l c = omega arith
+
+named-requires : tie.Need-named-requires Inv-loop μ-loop
+named-requires c κs = search needs
+
+lane-of-requires-2 : tie.Need-lane-of-requires-2 Inv-loop μ-loop
+lane-of-requires-2 c κs = search needs
+
+mul-other : tie.Need-mul-other Inv-loop μ-loop
+mul-other c = omega arith
+
+element-copy-out-other : tie.Need-element-copy-out-other Inv-loop μ-loop
+element-copy-out-other c = omega arith
 
 act-requires : tie.Need-act-requires Inv-loop μ-loop
 act-requires c κs =
-    let d = c .before .before .before .before in
-    let e = d .before .before .before .before .before .before in
+    let e = c .before .before .before .before .before in
     let own = e .before .before .before in
-    let a = own .before .before .before .before .before .args in
-    let fine = loop-end (a .s) _ _ _ _ (d .before .before .before .sizes-fit .ensures) (d .before .before .lanes-below .ensures .1) (d .before .loop .inv .0)
-    (d .loop-test .left) (d .before .loop .inv .1) in
+    let d = own .before .before in
+    let a = d .before .before .before .before .before .before .before .before .args in
+    let fine = loop-end (a .s) _ _ _ _ (d .before .before .sizes-fit .ensures) (d .before .lanes-below .ensures .1) (d .loop .inv .0) (own .before .loop-test .left)
+    (d .loop .inv .1) in
     let seen = e .lane-of2 .ensures .0 ∙ ap laneAt (e .before .named .ensures) in
     judged-at (a .s) (a .q .0) _ (own .lane-of .ensures .0) _ refl _ _ seen refl _ fine
 
@@ -87,16 +87,14 @@ changes-requires c κs = search needs
 
 mul-lane : tie.Need-mul-lane Inv-loop μ-loop
 mul-lane c =
-    let b = c .before .before .before .before .before .before .before .before in
-    let d = b .before .before .before .before .before .before .before .before in
-    let own = d .before .before .before .before .before .before .before .before .before in
+    let b = c .before .before .before .before .before .before .before .before .before .before .before in
+    let own = b .before .before .before .before .before .before .before .before .before in
     omega (arith, own .lane-of .ensures .1)
 
 element-set-from-lane : tie.Need-element-set-from-lane Inv-loop μ-loop
 element-set-from-lane c =
-    let b = c .before .before .before .before .before .before .before .before in
-    let d = b .before .before .before .before .before .before .before .before in
-    let own = d .before .before .before .before .before .before .before .before .before in
+    let b = c .before .before .before .before .before .before .before .before .before .before .before in
+    let own = b .before .before .before .before .before .before .before .before .before in
     omega (arith, own .lane-of .ensures .1)
 
 same-length : tie.Need-same-length Inv-loop μ-loop
@@ -114,12 +112,12 @@ same-length-4 c = search needs
 returns : tie.Need-returns Inv-loop μ-loop
 returns c =
     let b = c .before .before .before .before .before .before .before .before .before .before .before in
-    let d = b .before .before .before .before .before in
-    let e = d .before .before .before .before .before .before in
+    let e = b .before .before .before .before .before .before in
     let own = e .before .before .before in
-    let a = own .before .before .before .before .before .args in
-    let fine = loop-end (a .s) _ _ _ _ (d .before .before .before .sizes-fit .ensures) (d .before .before .lanes-below .ensures .1) (d .before .loop .inv .0)
-    (d .loop-test .left) (d .before .loop .inv .1) in
+    let d = own .before .before in
+    let a = d .before .before .before .before .before .before .before .before .args in
+    let fine = loop-end (a .s) _ _ _ _ (d .before .before .sizes-fit .ensures) (d .before .lanes-below .ensures .1) (d .loop .inv .0) (own .before .loop-test .left)
+    (d .loop .inv .1) in
     let seen = e .lane-of2 .ensures .0 ∙ ap laneAt (e .before .named .ensures) in
     step-is (a .s) (a .q .0) _ (own .lane-of .ensures .0) _ refl _ _ seen refl _ _ _ _ fine (b .act .ensures)
 
@@ -138,12 +136,12 @@ same-length-8 c = search needs
 returns-2 : tie.Need-returns-2 Inv-loop μ-loop
 returns-2 c =
     let b = c .before .before .before .before .before .before .before .before .before .before in
-    let d = b .before .before .before .before .before in
-    let e = d .before .before .before .before .before .before in
+    let e = b .before .before .before .before .before .before in
     let own = e .before .before .before in
-    let a = own .before .before .before .before .before .args in
-    let fine = loop-end (a .s) _ _ _ _ (d .before .before .before .sizes-fit .ensures) (d .before .before .lanes-below .ensures .1) (d .before .loop .inv .0)
-    (d .loop-test .left) (d .before .loop .inv .1) in
+    let d = own .before .before in
+    let a = d .before .before .before .before .before .before .before .before .args in
+    let fine = loop-end (a .s) _ _ _ _ (d .before .before .sizes-fit .ensures) (d .before .lanes-below .ensures .1) (d .loop .inv .0) (own .before .loop-test .left)
+    (d .loop .inv .1) in
     let seen = e .lane-of2 .ensures .0 ∙ ap laneAt (e .before .named .ensures) in
     step-kept (a .s) (a .q .0) _ (own .lane-of .ensures .0) _ refl _ _ seen refl _ _ _ _ fine (b .act .ensures)
     (sym (c .before .changes .ensures) ∙ c .if1 .left)
@@ -154,13 +152,6 @@ step-spec =
     (tie.spec
     Inv-loop
     μ-loop
-    lane-of-requires
-    mul-l
-    element-copy-out-l
-    named-requires
-    lane-of-requires-2
-    mul-other
-    element-copy-out-other
     sizes-fit-requires
     lanes-below-requires
     loop-holds
@@ -171,6 +162,13 @@ step-spec =
     add-i
     loop-less
     loop-again
+    lane-of-requires
+    mul-l
+    element-copy-out-l
+    named-requires
+    lane-of-requires-2
+    mul-other
+    element-copy-out-other
     act-requires
     changes-requires
     mul-lane
