@@ -1,5 +1,5 @@
-// The proved grid by its batch call: the operations of a row as one list of begins and steps. The list is made before the
-// measured stretch, from how many steps each operation takes; what is measured is the one call.
+// The proved grid by its batch call, and the batch in C: the operations of a row as one list of begins and steps. The list is made
+// before the measured stretch, from how many steps each operation takes; what is measured is the one call.
 #include "cgrid.h"
 #include "sides.h"
 
@@ -46,6 +46,15 @@ uint32_t batch_operations(uint32_t *readings, size_t readings_len, uint64_t *lin
     (void)outcomes, (void)n, (void)q, (void)busy, (void)before, (void)kind, (void)cell_count;
     return grid_list(readings, readings_len, links, links_len, directory, directory_len, pool, pool_len, kinds, entries, processes,
                      entries, cells, entries, values, entries, answers, entries, p, m);
+}
+
+uint32_t c_batch_operations(uint32_t *readings, size_t readings_len, uint64_t *links, size_t links_len, uint32_t *directory,
+                            size_t directory_len, uint32_t *pool, size_t pool_len, uint64_t *outcomes, size_t n, uint32_t p,
+                            uint32_t m, uint32_t q, uint32_t busy, uint32_t before, uint32_t kind, uint32_t cell_count)
+{
+    (void)outcomes, (void)n, (void)q, (void)busy, (void)before, (void)kind, (void)cell_count;
+    return c_list(readings, readings_len, links, links_len, directory, directory_len, pool, pool_len, kinds, entries, processes,
+                  entries, cells, entries, values, entries, answers, entries, p, m);
 }
 
 // The batch's words count from "begun", and have a read's flag at 2^16.

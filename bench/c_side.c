@@ -1,5 +1,5 @@
-// The side in C: operations of one process on cgrid.c, as crates/bench_host does them on the proved grid.
-// The machine is included, so that the compiler may put its calls in line as it does on the other side.
+// The side in C: operations of one process on cgrid.c, as crates/bench_host does them on the proved grid. As there, each begin and
+// each step looks at all the lanes.
 #include "cgrid.c"
 #include "sides.h"
 
@@ -8,10 +8,12 @@ static uint64_t word_of(struct answer a)
     return (uint64_t)a.what << 40 | (uint64_t)a.steps << 32 | a.value;
 }
 
-static struct answer begin(struct grid *g, uint32_t q, uint32_t v, uint32_t before, uint32_t kind, uint32_t cell)
+static struct answer begin(struct grid *g, uint32_t q, enum kind kind, uint32_t cell, uint32_t value)
 {
-    return cgrid_begin(g, q, v < before || kind == 1 ? WRITE : kind == 0 ? READ : ASKED, cell, v);
+    return cgrid_begin(g, cgrid_fits(g), q, kind, cell, value);
 }
+
+static struct answer step(struct grid *g, uint32_t q, const struct memories *mem) { return cgrid_step(g, cgrid_fits(g), q, mem); }
 
 size_t c_state_bytes(void) { return sizeof(struct grid); }
 
@@ -23,16 +25,16 @@ uint32_t c_operations(uint32_t *readings, size_t readings_len, uint64_t *links, 
     struct grid g;
     cgrid_open(&g, p, m, 7, 3, &mem);
     for (uint32_t j = 0; j < busy; j++) {
-        cgrid_begin(&g, j, WRITE, 0, j);
-        cgrid_step(&g, j, &mem);
-        cgrid_step(&g, j, &mem);
+        begin(&g, j, WRITE, 0, j);
+        step(&g, j, &mem);
+        step(&g, j, &mem);
     }
     uint32_t cell = 0;
     for (size_t i = 0; i < n; i++) {
-        begin(&g, q, i, before, kind, cell);
+        begin(&g, q, i < before || kind == 1 ? WRITE : kind == 0 ? READ : ASKED, cell, i);
         struct answer a;
         do
-            a = cgrid_step(&g, q, &mem);
+            a = step(&g, q, &mem);
         while (a.what == GOING);
         outcomes[i] = word_of(a);
         cell = cell + 1 < cells ? cell + 1 : 0;

@@ -1,4 +1,6 @@
 // The grid's machine in C, by hand: the same steps, refusals and range checks as the proved one, its state changed in place.
+// A side includes it, so that the compiler may put its calls in line there. Whether the state fits is handed to begin and step:
+// a side says when it looks.
 #include "cgrid.h"
 #include <stdbool.h>
 #include <string.h>
@@ -56,7 +58,7 @@ static bool lane_fits(const struct grid *g, const struct lane *l)
     }
 }
 
-static bool state_fits(const struct grid *g)
+static bool cgrid_fits(const struct grid *g)
 {
     if (g->p < 1 || g->p > PROCESSES || g->m < 1 || g->m > CELLS || g->top > pool_words(g->p, g->m))
         return false;
@@ -66,7 +68,7 @@ static bool state_fits(const struct grid *g)
     return true;
 }
 
-struct answer cgrid_open(struct grid *g, uint32_t p, uint32_t m, uint32_t first, uint32_t step, const struct memories *mem)
+static struct answer cgrid_open(struct grid *g, uint32_t p, uint32_t m, uint32_t first, uint32_t step, const struct memories *mem)
 {
     memset(g, 0, sizeof *g);
     if (p < 1 || p > PROCESSES)
@@ -82,9 +84,9 @@ struct answer cgrid_open(struct grid *g, uint32_t p, uint32_t m, uint32_t first,
     return answer(OPENED, 0, 0);
 }
 
-struct answer cgrid_begin(struct grid *g, uint32_t q, enum kind kind, uint32_t cell, uint32_t value)
+static struct answer cgrid_begin(struct grid *g, bool fits, uint32_t q, enum kind kind, uint32_t cell, uint32_t value)
 {
-    if (!state_fits(g))
+    if (!fits)
         return refused(9);
     if (q >= g->p)
         return refused(4);
@@ -142,9 +144,9 @@ static struct answer not_written(struct grid *g, uint32_t q, struct lane *l, uin
     return go(l, at_place(q, l));
 }
 
-struct answer cgrid_step(struct grid *g, uint32_t q, const struct memories *mem)
+static struct answer cgrid_step(struct grid *g, bool fits, uint32_t q, const struct memories *mem)
 {
-    if (!state_fits(g))
+    if (!fits)
         return refused(9);
     if (!lengths_fit(g->p, g->m, mem))
         return refused(8);

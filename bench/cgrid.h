@@ -1,4 +1,4 @@
-// The grid's machine in C: its state, its memories and its calls, to measure the proved one against.
+// The grid's machine in C: its state, its memories and its answers, to measure the proved one against.
 #ifndef CGRID_H
 #define CGRID_H
 #include <stddef.h>
@@ -44,8 +44,4 @@ struct answer {
     uint8_t what, steps;
     uint32_t value; // a reading, 1 or 0, or the refusal's number
 };
-
-struct answer cgrid_open(struct grid *g, uint32_t p, uint32_t m, uint32_t first, uint32_t step, const struct memories *mem);
-struct answer cgrid_begin(struct grid *g, uint32_t q, enum kind kind, uint32_t cell, uint32_t value);
-struct answer cgrid_step(struct grid *g, uint32_t q, const struct memories *mem);
 #endif

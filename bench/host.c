@@ -36,9 +36,6 @@ void *__wrap_memmove(void *to, const void *from, size_t n)
 }
 #endif
 
-typedef uint32_t operations(uint32_t *, size_t, uint64_t *, size_t, uint32_t *, size_t, uint32_t *, size_t, uint64_t *, size_t,
-                            uint32_t, uint32_t, uint32_t, uint32_t, uint32_t, uint32_t, uint32_t);
-
 // The first side is measured against the others. A side with an exact machine answers and leaves what the first does. One that
 // takes a list has it made beforehand, outside of what is measured.
 static const struct side {
@@ -50,6 +47,7 @@ static const struct side {
     {"c", c_operations, 1, 0},
     {"array", array_operations, 0, 0},
     {"batch", batch_operations, 1, 1},
+    {"c-batch", c_batch_operations, 1, 1},
 };
 
 enum { SIDES = sizeof sides / sizeof *sides };
