@@ -16,5 +16,6 @@ pub mod Opens
 pub mod Runs
 -- the theorems
 pub mod Proved
+pub mod Grows
 pub mod Vanish
 pub mod Theorems

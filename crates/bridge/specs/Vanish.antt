@@ -114,9 +114,10 @@ nothing-vanishes f b O d e md me before same shows = subst (Knows b (e .cell)) (
 
     known : ((x : Done) × List·Memᴰ x (b .ended) × Is (S .entry) x) ⊎ Unfinished b (S .entry) → Wrote b (e .cell) (valueIn f (B .older) (e .cell))
     known (inl x) = once (x .0) (x .1) (sym (x .2 .op) ∙ S .op) (sym (x .2 .cell) ∙ S .cell)
-    known (inr u) = still (S .entry .who) (S .entry .began) (u .taken)
-        (u .doing ∙ ap (λ (o : Op). busy (S .entry .began) o (S .entry .cell) (u .taken)) (S .op)
-        ∙ ap (λ (c : ℕ). busy (S .entry .began) (write (valueIn f (B .older) (e .cell))) c (u .taken)) (S .cell))
+    known (inr u) = let taken = u .under-way .taken in
+        still (S .entry .who) (S .entry .began) taken
+        (u .under-way .doing ∙ ap (λ (o : Op). busy (S .entry .began) o (S .entry .cell) taken) (S .op)
+        ∙ ap (λ (c : ℕ). busy (S .entry .began) (write (valueIn f (B .older) (e .cell))) c taken) (S .cell))
 
     by : (o : Op) → E .0 .ans ≡ answer f (deeds (B .older)) o (E .0 .cell) → Knows b (e .cell) (E .0 .ans)
     by read r =
