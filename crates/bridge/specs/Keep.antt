@@ -13,7 +13,7 @@ use Rattle.demands.specs.Types.{Terms, Op, Lane, State, Memory, Ask}
 use Rattle.demands.specs.Kinds.{askOp}
 use Rattle.demands.specs.Book.{Doing, nothing, busy, Book, passed, begun}
 use Rattle.demands.specs.Agrees.{Does, LaneAgrees}
-use Rattle.bridge.specs.Shadow.{gridOf, stageOf, laneFor, sinceOf, takenOf, memOf, shadow}
+use Rattle.bridge.specs.Shadow.{stageOf, laneFor, sinceOf, takenOf, memOf, shadow}
 use Rattle.bridge.specs.ShadowLaws.{lane-set, lane-all, upd-self}
 use Rattle.bridge.specs.Good.{Held, Good, Later, law, inside, behind}
 

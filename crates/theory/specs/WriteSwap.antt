@@ -60,7 +60,7 @@ module _ {G : Grid} {oldLink : ℕ → Link} {W : World} (I : Inv G oldLink W) (
     last : Entry
     last = Log.entry (W .w) x (write (M .reading i)) i done
 
-    added : List Entry
+    abbrev added : List Entry
     added = last ∷ swept .0
 
     log′ : List Entry
@@ -70,16 +70,16 @@ module _ {G : Grid} {oldLink : ℕ → Link} {W : World} (I : Inv G oldLink W) (
     W″ = Log.turned W q o i M′ (W .used) (end done) log′
 
     pre′ : Pre G oldLink W log′
-    unfolding log′ added last
+    unfolding log′ last
     pre′ = Sweep.put I i x t (G .p) (swept .0 ++ W .log) (swept .1) x (M .reading i) sx (λ y hy ne. ne)
 
     more′ : (z : Entry) → List·Memᴰ z (W .log) → List·Memᴰ z log′
-    unfolding log′ added
+    unfolding log′
     more′ z m = List·Memᴰ·tail (swept .1 .more z m)
 
     -- what is new in the order is a stored write of this cell
     less′ : (z : Entry) → List·Memᴰ z log′ → List·Memᴰ z (W .log) ⊎ ((r : ℕ) × (v : ℕ) × (z .began ≡ W .w .since r) × Stored (W .w .lane r) i v)
-    unfolding log′ added last
+    unfolding log′ last
     less′ z m = ⊎-elim (λ (h : z ≡ last). inr (x, M .reading i, ap (λ (u : Entry). u .began) h, sx))
         (λ (h : List·Memᴰ z (swept .0 ++ W .log)). ⊎-elim (λ (y : List·Memᴰ z (W .log)). inl y)
         (λ (y : Newer I i x t (G .p) z). inr (y .r, y .v, y .since, y .stored)) (swept .1 .less z h))
@@ -87,7 +87,7 @@ module _ {G : Grid} {oldLink : ℕ → Link} {W : World} (I : Inv G oldLink W) (
 
     -- every stored write of this cell is in the order
     all′ : (r v : ℕ) → Stored (W .w .lane r) i v → List·Memᴰ (Log.entry (W .w) r (write v) i done) log′
-    unfolding log′ added last
+    unfolding log′ last
     all′ r v s = by (ℕ-discrete r x)
       where
         c : (g : Stage) × (W .w .lane r ≡ busy (write v) i g) × After g × BusyOk G oldLink W r (write v) i g
@@ -101,19 +101,19 @@ module _ {G : Grid} {oldLink : ℕ → Link} {W : World} (I : Inv G oldLink W) (
             let eq : Log.entry (W .w) r (write v) i done ≡ last = rw (y, vv) in List·Memᴰ·head eq
 
     written′ : writtenIn log′ i ≡ true
-    unfolding log′ added last
+    unfolding log′ last
     written′ = OrderLaws.written-here last (swept .0 ++ W .log) (M .reading i) i refl refl
 
     value′ : valueIn (G .f) log′ i ≡ M .reading i
-    unfolding log′ added last
+    unfolding log′ last
     value′ = OrderLaws.value-here (G .f) last (swept .0 ++ W .log) (M .reading i) i refl refl
 
     same′ : (j : ℕ) → j ≢ i → writtenIn log′ j ≡ writtenIn (W .log) j
-    unfolding log′ added last
+    unfolding log′ last
     same′ j ne = OrderLaws.written-away last (swept .0 ++ W .log) j ne ∙ swept .1 .same j ne
 
     vals′ : (j : ℕ) → j ≢ i → valueIn (G .f) log′ j ≡ valueIn (G .f) (W .log) j
-    unfolding log′ added last
+    unfolding log′ last
     vals′ j ne = OrderLaws.value-away (G .f) last (swept .0 ++ W .log) j ne ∙ swept .1 .vals j ne
 
     apart-i : (j : ℕ) → Swapped G oldLink W j → j ≢ i
