@@ -10,7 +10,7 @@ use Rattle.theory.specs.Interface as Theory
 use Rattle.demands.specs.Types.{Terms, State, Ask}
 use Rattle.demands.specs.Kinds.{writing}
 use Rattle.demands.specs.Book.{Book, Run, next, run, start}
-use Rattle.demands.specs.Growing.{Placed, Growing, OrderGrows}
+use Rattle.demands.specs.Growing.{Placed, GrowingWith, Growing, OrderGrows}
 use Rattle.bridge.specs.Good.{law, behind}
 use Rattle.bridge.specs.Runs.{GoodWith, later, nextGood, goodAfter, opened-as, fresh-good}
 use Rattle.bridge.specs.Proved.{under-way}
@@ -62,8 +62,8 @@ only-grows z mem ok =
     (growing _ (fresh-good z mem ok))
 
 -- What follows from it, of calls of any form.
-module _ {C : Type 0} {f : ℕ → ℕ} {book : List C → Book} (G : Growing f book) (calls more : List C) (e : Theory.Entry)
-    (m : List·Memᴰ e (G .orders calls .order)) where
+module _ {Besides : Book → Theory.Entry → Type 0} {C : Type 0} {f : ℕ → ℕ} {book : List C → Book} (G : GrowingWith Besides f book)
+    (calls more : List C) (e : Theory.Entry) (m : List·Memᴰ e (G .orders calls .order)) where
   pub stays : List·Memᴰ e (G .orders (calls ++ more) .order)
   stays = Theory.grown-keeps (G .grows calls more) e m
 

@@ -16,7 +16,7 @@ use Rattle.demands.specs.Demand2.{OneOrder}
 use Rattle.demands.specs.Demand3.{Counted, PoolSpent, PoolSuffices}
 use Rattle.demands.specs.Demanded.{expected, Meets}
 use Rattle.demands.specs.Vanishing.{NothingVanishes}
-use Rattle.demands.specs.Growing.{Growing, OrderGrows}
+use Rattle.demands.specs.Growing.{GrowingWith, OrderGrows}
 use Rattle.bridge.specs.Vanish as Vanish
 use Rattle.bridge.specs.Grows as Grows
 use Rattle.bridge.specs.Proved.{demanded}
@@ -44,8 +44,8 @@ the-order-only-grows = Grows.only-grows
 
 -- Hence what is decided stays decided, in every growing order: an operation that has its place has it, with its answer, in
 -- every longer run's order; and if it ends there, it ends with that answer, its place not after its last step.
-module _ {C : Type 0} {f : ℕ → ℕ} {book : List C → Book} (G : Growing f book) (calls more : List C) (e : Theory.Entry)
-    (m : List·Memᴰ e (G .orders calls .order)) where
+module _ {Besides : Book → Theory.Entry → Type 0} {C : Type 0} {f : ℕ → ℕ} {book : List C → Book} (G : GrowingWith Besides f book)
+    (calls more : List C) (e : Theory.Entry) (m : List·Memᴰ e (G .orders calls .order)) where
   pub decided-stays : List·Memᴰ e (G .orders (calls ++ more) .order)
   decided-stays = Grows.stays G calls more e m
 

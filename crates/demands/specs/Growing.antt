@@ -17,10 +17,13 @@ pub record Placed (b : Book) (e : Entry) : Type 0 where
   pub early : e .at < b .now
 
 -- Of calls of any form, where `book` has what is written down of them from the start: one order after any calls, and
--- after more calls the same order with entries put after it.
-pub record Growing {C : Type 0} (f : ℕ → ℕ) (book : List C → Book) : Type 0 where
-  pub orders : (calls : List C) → OrderOf f (book calls .ended) (Placed (book calls))
+-- after more calls the same order with entries put after it. `Besides`: what may stand in it besides ended operations.
+pub record GrowingWith (Besides : Book → Entry → Type 0) {C : Type 0} (f : ℕ → ℕ) (book : List C → Book) : Type 0 where
+  pub orders : (calls : List C) → OrderOf f (book calls .ended) (Besides (book calls))
   pub grows : (calls more : List C) → Grown (orders calls .order) (orders (calls ++ more) .order)
+
+abbrev pub Growing : {C : Type 0} → (ℕ → ℕ) → (List C → Book) → Type 0
+Growing f book = GrowingWith Placed f book
 
 -- Of a machine: for any numbers, any memory that open accepts.
 module _ {S A : Type 0} (K : Kind S A) (M : Machine S A) where

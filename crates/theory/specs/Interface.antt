@@ -29,7 +29,7 @@ pub use Rattle.theory.specs.Touch.{Inside, TouchIn, Touch}
 pub use Rattle.theory.specs.Consequences.{one-order, order-so-far, steps-under-way, pool-bound, top-fits, drawn-fits, marks-fit}
 pub use Rattle.theory.specs.Consequences.{front-fits, process-fits, cell-fits, place-read, touches, mark-read}
 pub use Rattle.theory.specs.AtRest.{CellAtRest, unwritten, written, all-ended, cell-at-rest}
-pub use Rattle.theory.specs.RealTime.{ended-first, real-time-order}
+pub use Rattle.theory.specs.RealTime.{ended-first, real-time-order, new-after-old}
 -- a part of the cells; operations one after another
 pub use Rattle.theory.specs.Part.{named, namedDone, named-is, partOf, partDone, Came, came, stays, part-orderly}
 unfoldable pub use Rattle.theory.specs.Part.{chosen}
