@@ -13,6 +13,7 @@ pub mod Keep
 pub mod KeepStep
 pub mod Views
 pub mod Opens
+pub mod Along
 pub mod Runs
 -- the theorems
 pub mod Proved

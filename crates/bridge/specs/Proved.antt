@@ -2,9 +2,8 @@
 -- Assumes nothing.
 use Prim.Native.Nat.{ℕ, suc, _<_}
 use mathlib.Core.Path.{_≡_, refl, sym, ap, _∙_, subst}
-use mathlib.Core.Logic.{_⊎_, inl, inr, _≢_}
+use mathlib.Core.Logic.{_≢_}
 use mathlib.Core.Bool.{Bool, true, false, not}
-use mathlib.Core.List.{List·Memᴰ}
 use native.Mathlib.Omega.{arith}
 use lib.Dec.{ltb}
 use Rattle.logic.specs.Pick.{pick}
@@ -18,7 +17,7 @@ use Rattle.demands.specs.Types.{Refusal, Terms, State, Memory, Next, Ask, Stepp
 use Rattle.demands.specs.Kinds.{writing}
 use Rattle.demands.specs.Book.{Doing, nothing, busy, Book, Run}
 use Rattle.demands.specs.Demand1.{refused, begins, steps, said}
-use Rattle.demands.specs.Demand2.{UnderWay, Unfinished, OneOrder}
+use Rattle.demands.specs.Demand2.{UnderWay, OneOrder}
 use Rattle.demands.specs.Demand3.{mostSteps, Answers, Counts}
 use Rattle.demands.specs.Demanded.{isBusy, expected, Meets, Demanded}
 use Rattle.bridge.specs.Shadow.{laneFor, sinceOf}
@@ -51,15 +50,8 @@ module _ {s : State} {mem : Memory} {b : Book} (H : Good s mem b) where
           }
 
   pub one-order : OneOrder (fillOf (s .terms .first) (s .terms .step)) b
-  one-order = record { order = O .order; orderly = O .orderly; complete = O .complete; sound = λ e m. by e (O .sound e m) }
-    where
-      O : Theory.OneOrder (fillOf (s .terms .first) (s .terms .step)) (behind H .watch)
-      O = Theory.one-order (law H) (H .whole)
-
-      by : (e : Theory.Entry) → ((d : Theory.Done) × List·Memᴰ d (b .ended) × Theory.Is e d) ⊎ Theory.Pending (behind H .watch) e
-          → ((d : Theory.Done) × List·Memᴰ d (b .ended) × Theory.Is e d) ⊎ Unfinished b e
-      by e (inl x) = inl x
-      by e (inr x) = inr (record { under-way = under-way e (x .under); writes = rw (x .writes) tt })
+  one-order = Theory.order-as (Theory.one-order (law H) (H .whole))
+      (λ e m p. record { under-way = under-way e (p .under); writes = rw (p .writes) tt })
 
   -- ---- demand 3
 

@@ -10,6 +10,7 @@ use Rattle.acts.specs.Worlds.{Machine, World, world, grid, Call, begin, step, m
 use Rattle.demands.specs.Types.{Terms, State, Ask}
 use Rattle.demands.specs.Kinds.{Kind, writing}
 use Rattle.demands.specs.Book.{Run, next, run, start}
+use Rattle.bridge.specs.Along.{kept}
 use Rattle.bridge.specs.Opens.{good-fresh}
 use Rattle.bridge.specs.Views.{GoodRun, LaterRun, good-next}
 
@@ -34,13 +35,8 @@ module _ {z : Terms} where
   pub later : (r : Run State) (H : GoodWith z r) (c : Call Ask z) → LaterRun {r = r} (H .good) (next writing grid r c)
   later r H = subst (λ (z : Terms). (c : Call Ask z) → LaterRun {r = r} (H .good) (next writing grid r c)) (H .terms) (good-next r (H .good))
 
-  abbrev pub nextGood : (r : Run State) → GoodWith z r → (c : Call Ask z) → GoodWith z (next writing grid r c)
-  nextGood r H c = record { good = later r H c .good; terms = same-terms r c ∙ H .terms }
-
-  unfoldable pub goodAfter : (cs : List (Call Ask z)) (r : Run State) → GoodWith z r → GoodWith z (run writing grid r cs)
-  unfolding run
-  goodAfter [] r H = H
-  goodAfter (c ∷ cs) r H = goodAfter cs (next writing grid r c) (nextGood r H c)
+  abbrev pub keeps : (r : Run State) → GoodWith z r → (c : Call Ask z) → GoodWith z (next writing grid r c)
+  keeps r H c = record { good = later r H c .good; terms = same-terms r c ∙ H .terms }
 
 -- What holds of the world that open leaves, all old bytes kept, holds of an opened grid.
 module _ (z : Terms) (mem : Memory) (ok : Accepted grid z mem) where
@@ -52,4 +48,6 @@ module _ (z : Terms) (mem : Memory) (ok : Accepted grid z mem) where
 
 pub after-any-calls : (z : Terms) (P : Run State → Type 0) → ((r : Run State) → GoodWith z r → P r) → (mem : Memory) → Accepted grid z mem
     → (calls : List (Call Ask z)) → P (run writing grid (start (openedWorld grid z mem)) calls)
-after-any-calls z P holds mem ok calls = opened-as z mem ok (λ w. P (run writing grid (start w) calls)) (holds _ (goodAfter calls _ (fresh-good z mem ok)))
+after-any-calls z P holds mem ok calls =
+    opened-as z mem ok (λ (w : World State). P (run writing grid (start w) calls))
+    (holds _ (kept writing grid (GoodWith z) keeps calls _ (fresh-good z mem ok)))

@@ -4,7 +4,7 @@ pub use Rattle.theory.specs.Base.{pick, upd-same, upd-other}
 unfoldable pub use Rattle.theory.specs.Base.{upd}
 pub use Rattle.theory.specs.Array.{Op, read, asked, write, Ans, got, told, done}
 pub use Rattle.theory.specs.Order.{Done, Entry, Orderly, Is, OrderOf, Grown, Before, valueIn, writtenIn}
-pub use Rattle.theory.specs.OrderLaws.{unique, grown-same, grown-on, grown-keeps}
+pub use Rattle.theory.specs.OrderLaws.{unique, order-as, grown-same, grown-on, grown-keeps}
 pub use Rattle.theory.specs.Shape.{Shape}
 -- the machine
 pub use Rattle.theory.specs.Machine.{Grid, mostMarks, poolWords, Link, mk, Seen}
