@@ -4,3 +4,4 @@ pub mod Lost
 pub mod Tight
 pub mod Shams
 pub mod Waiting
+pub mod Undecided
