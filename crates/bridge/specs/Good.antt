@@ -55,6 +55,11 @@ pub record Good (s : State) (mem : Memory) (b : Book) : Type 0 where
   pub holds : (q : ℕ) → Held (laneOf s q .op) (held q)
   pub whole : Theory.Whole (gridOf (s .terms)) (shadow s mem b marks held)
 
+-- A later state, memory and book, with an order grown from this one's.
+pub record Later {s : State} {mem : Memory} {b : Book} (H : Good s mem b) (s′ : State) (mem′ : Memory) (b′ : Book) : Type 0 where
+  pub good : Good s′ mem′ b′
+  pub grown : Theory.Grown (H .whole .log) (good .whole .log)
+
 -- ---- an operation whose next step touches a word inside its memory is in its ranges
 
 module _ (z : Terms) (P : Theory.Words) (q i : ℕ) where

@@ -13,24 +13,28 @@ use Rattle.demands.specs.Types.{Terms, Op, Lane, State, Memory, Ask}
 use Rattle.demands.specs.Kinds.{askOp}
 use Rattle.demands.specs.Book.{Doing, nothing, busy, Book, passed, begun}
 use Rattle.demands.specs.Agrees.{Does, LaneAgrees}
-use Rattle.bridge.specs.Shadow.{gridOf, stageOf, laneFor, sinceOf, takenOf, memOf, shadow}
+use Rattle.bridge.specs.Shadow.{stageOf, laneFor, sinceOf, takenOf, memOf, shadow}
 use Rattle.bridge.specs.ShadowLaws.{lane-set, lane-all, upd-self}
-use Rattle.bridge.specs.Good.{Held, Good, law, inside, behind}
+use Rattle.bridge.specs.Good.{Held, Good, Later, law, inside, behind}
 
 -- ---- a refused call
 
-pub good-pass : {s : State} {mem : Memory} {b : Book} → Good s mem b → Good s mem (passed b)
-good-pass H = record {
-  bounds = H .bounds;
-  lanes = H .lanes;
-  lengths = H .lengths;
-  agrees = H .agrees;
-  beyond = H .beyond;
-  marks = H .marks;
-  held = H .held;
-  holds = H .holds;
-  whole = Theory.whole-pass (law H) (H .whole);
-}
+pub good-pass : {s : State} {mem : Memory} {b : Book} (H : Good s mem b) → Later H s mem (passed b)
+good-pass H = let L = Theory.whole-pass (law H) (H .whole) in
+    record {
+      good = record {
+        bounds = H .bounds;
+        lanes = H .lanes;
+        lengths = H .lengths;
+        agrees = H .agrees;
+        beyond = H .beyond;
+        marks = H .marks;
+        held = H .held;
+        holds = H .holds;
+        whole = L .whole;
+      };
+      grown = L .grown;
+    }
 
 -- ---- a field of the lanes, where process q's lane becomes l
 
@@ -98,17 +102,23 @@ module _ {s : State} {mem : Memory} {b : Book} (H : Good s mem b) (q : ℕ) (o :
     taken = lane-set (b .doing) (s .lanes) q doing begunLane (inside H q hq) (λ d l. takenOf d) z;
   }
 
-  pub good-begin : Good (settled s q begunLane (s .top)) mem (begun b q o i)
+  begun-whole : Theory.Later (H .whole) (shadow (settled s q begunLane (s .top)) mem (begun b q o i) (H .marks) (H .held))
+  begun-whole =
+      subst (λ (R : Theory.Run). Theory.Later (H .whole) R) begun-path
+      (Theory.whole-begin (law H) (H .whole) q o i (ap (λ (d : Doing). laneFor d (laneOf s q .op)) free) hq hi)
+
+  pub good-begin : Later H (settled s q begunLane (s .top)) mem (begun b q o i)
   good-begin = record {
-    bounds = H .bounds;
-    lanes = length-set (s .lanes) q begunLane ∙ H .lanes;
-    lengths = H .lengths;
-    agrees = lane-all (b .doing) (s .lanes) q doing begunLane (inside H q hq) (λ r d l. LaneAgrees (s .terms) l d) (st .does, refl) (λ r ne. H .agrees r);
-    beyond = beyond-set H q hq begunLane;
-    marks = H .marks;
-    held = H .held;
-    holds = lane-all (b .doing) (s .lanes) q doing begunLane (inside H q hq) (λ r d l. Held (l .op) (H .held r)) (st .held (H .held q)) (λ r ne. H .holds r);
-    whole =
-        subst (λ (R : Theory.Run). Theory.Whole (gridOf (s .terms)) R) begun-path
-        (Theory.whole-begin (law H) (H .whole) q o i (ap (λ (d : Doing). laneFor d (laneOf s q .op)) free) hq hi);
+    good = record {
+      bounds = H .bounds;
+      lanes = length-set (s .lanes) q begunLane ∙ H .lanes;
+      lengths = H .lengths;
+      agrees = lane-all (b .doing) (s .lanes) q doing begunLane (inside H q hq) (λ r d l. LaneAgrees (s .terms) l d) (st .does, refl) (λ r ne. H .agrees r);
+      beyond = beyond-set H q hq begunLane;
+      marks = H .marks;
+      held = H .held;
+      holds = lane-all (b .doing) (s .lanes) q doing begunLane (inside H q hq) (λ r d l. Held (l .op) (H .held r)) (st .held (H .held q)) (λ r ne. H .holds r);
+      whole = begun-whole .whole;
+    };
+    grown = begun-whole .grown;
   }

@@ -18,7 +18,7 @@ use Rattle.demands.specs.Book.{Doing, nothing, busy, Book, counted, finished, n
 use Rattle.demands.specs.Agrees.{LaneAgrees}
 use Rattle.bridge.specs.Shadow.{gridOf, pairOf, stageOf, laneFor, sinceOf, takenOf, changeOf, nextOf, memOf, shadow}
 use Rattle.bridge.specs.ShadowLaws.{list-set, lane-set, lane-all}
-use Rattle.bridge.specs.Good.{Held, Good, law, inside, behind, at-work, does}
+use Rattle.bridge.specs.Good.{Held, Good, Later, law, inside, behind, at-work, does}
 use Rattle.bridge.specs.Goes.{Stores, Carries, turnAs, memory, Goes}
 use Rattle.bridge.specs.Keep.{field-set, field-same, mem-as, beyond-set}
 
@@ -151,9 +151,9 @@ module _ {s : State} {mem : Memory} {b : Book} (H : Good s mem b) (q : ℕ) {beg
     taken = Theory.upd (behind H .taken) q (suc (behind H .taken q));
   }
 
-  stepped-whole : Theory.Whole (gridOf (s .terms)) after
+  stepped-whole : Theory.Later (H .whole) after
   stepped-whole =
-      subst (λ (t : Theory.Turn). Theory.Whole (gridOf (s .terms))
+      subst (λ (t : Theory.Turn). Theory.Later (H .whole)
       (record { watch = Theory.stepped (behind H .watch) q o i t; words = after .words; tally = after .tally; taken = after .taken })) (g .same)
       (Theory.whole-step (law H) (H .whole) q (at-work H q e))
 
@@ -209,23 +209,30 @@ module _ {s : State} {mem : Memory} {b : Book} (H : Good s mem b) (q : ℕ) {beg
     taken = λ r. takenOf (steppedBook .doing r);
   }
 
-  pub good-step : Good steppedState steppedMemory steppedBook
+  rested-whole : Theory.Later (stepped-whole .whole)
+      (shadow steppedState steppedMemory steppedBook (after .watch .mem .marks) (Theory.upd (H .held) q (g .start)))
+  rested-whole = subst (λ (R : Theory.Run). Theory.Later (stepped-whole .whole) R) step-path
+      (Theory.whole-rest (law H) (stepped-whole .whole) (suc (b .now)) (λ r. sinceOf (steppedBook .doing r)) (λ r. takenOf (steppedBook .doing r))
+      (omega arith) forgotten)
+
+  pub good-step : Later H steppedState steppedMemory steppedBook
   good-step = record {
-    bounds = H .bounds;
-    lanes = length-set (s .lanes) q steppedLane ∙ H .lanes;
-    lengths = keeps-lengths (g .change) (H .lengths);
-    agrees = lane-all (b .doing) (s .lanes) q (doingAfter began o i taken (g .next)) steppedLane (inside H q own) (λ r d l. LaneAgrees (s .terms) l d)
-        (agrees-after (s .terms) o i began taken (g .start) (g .next) (laneAfter (g .change) (laneOf s q))
-        (same-steps (g .change) (laneOf s q) ∙ does H q e .1) (g .carries)) (λ r ne. H .agrees r);
-    beyond = beyond-set H q own steppedLane;
-    marks = after .watch .mem .marks;
-    held = Theory.upd (H .held) q (g .start);
-    holds =
-        lane-all (b .doing) (s .lanes) q (doingAfter began o i taken (g .next)) steppedLane (inside H q own)
-        (λ r d l. Held (l .op) (Theory.upd (H .held) q (g .start) r))
-        (rw (Theory.upd-same (H .held) q (g .start)) (held-after (s .terms) o i began taken (g .start) (g .next) (laneAfter (g .change) (laneOf s q))
-        (g .carries))) (λ r ne. rw (Theory.upd-other (H .held) q (g .start) r ne) (H .holds r));
-    whole = subst (λ (R : Theory.Run). Theory.Whole (gridOf (s .terms)) R) step-path
-        (Theory.whole-rest (law H) stepped-whole (suc (b .now)) (λ r. sinceOf (steppedBook .doing r)) (λ r. takenOf (steppedBook .doing r))
-        (omega arith) forgotten);
+    good = record {
+      bounds = H .bounds;
+      lanes = length-set (s .lanes) q steppedLane ∙ H .lanes;
+      lengths = keeps-lengths (g .change) (H .lengths);
+      agrees = lane-all (b .doing) (s .lanes) q (doingAfter began o i taken (g .next)) steppedLane (inside H q own) (λ r d l. LaneAgrees (s .terms) l d)
+          (agrees-after (s .terms) o i began taken (g .start) (g .next) (laneAfter (g .change) (laneOf s q))
+          (same-steps (g .change) (laneOf s q) ∙ does H q e .1) (g .carries)) (λ r ne. H .agrees r);
+      beyond = beyond-set H q own steppedLane;
+      marks = after .watch .mem .marks;
+      held = Theory.upd (H .held) q (g .start);
+      holds =
+          lane-all (b .doing) (s .lanes) q (doingAfter began o i taken (g .next)) steppedLane (inside H q own)
+          (λ r d l. Held (l .op) (Theory.upd (H .held) q (g .start) r))
+          (rw (Theory.upd-same (H .held) q (g .start)) (held-after (s .terms) o i began taken (g .start) (g .next) (laneAfter (g .change) (laneOf s q))
+          (g .carries))) (λ r ne. rw (Theory.upd-other (H .held) q (g .start) r ne) (H .holds r));
+      whole = rested-whole .whole;
+    };
+    grown = Theory.grown-on (stepped-whole .grown) (rested-whole .grown);
   }

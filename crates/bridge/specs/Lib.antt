@@ -13,8 +13,10 @@ pub mod Keep
 pub mod KeepStep
 pub mod Views
 pub mod Opens
+pub mod Along
 pub mod Runs
 -- the theorems
 pub mod Proved
+pub mod Grows
 pub mod Vanish
 pub mod Theorems

@@ -2,9 +2,8 @@
 -- Assumes nothing.
 use Prim.Native.Nat.{ℕ, suc, _<_}
 use mathlib.Core.Path.{_≡_, refl, sym, ap, _∙_, subst}
-use mathlib.Core.Logic.{_⊎_, inl, inr, _≢_}
+use mathlib.Core.Logic.{_≢_}
 use mathlib.Core.Bool.{Bool, true, false, not}
-use mathlib.Core.List.{List·Memᴰ}
 use native.Mathlib.Omega.{arith}
 use lib.Dec.{ltb}
 use Rattle.logic.specs.Pick.{pick}
@@ -18,7 +17,7 @@ use Rattle.demands.specs.Types.{Refusal, Terms, State, Memory, Next, Ask, Stepp
 use Rattle.demands.specs.Kinds.{writing}
 use Rattle.demands.specs.Book.{Doing, nothing, busy, Book, Run}
 use Rattle.demands.specs.Demand1.{refused, begins, steps, said}
-use Rattle.demands.specs.Demand2.{Unfinished, OneOrder}
+use Rattle.demands.specs.Demand2.{UnderWay, OneOrder}
 use Rattle.demands.specs.Demand3.{mostSteps, Answers, Counts}
 use Rattle.demands.specs.Demanded.{isBusy, expected, Meets, Demanded}
 use Rattle.bridge.specs.Shadow.{laneFor, sinceOf}
@@ -26,41 +25,33 @@ use Rattle.bridge.specs.Good.{Good, law, behind, does, few-steps, top-fi
 use Rattle.bridge.specs.KeepStep.{doingAfter, good-step}
 use Rattle.bridge.specs.Refused.{answers, demand-1-holds}
 use Rattle.bridge.specs.Views.{Begins, refuses, accepts, begins-as, Steps, refuses-step, accepts-step, steps-as, misfits, GoodRun}
-use Rattle.bridge.specs.Runs.{with-terms, after-any-calls}
+use Rattle.bridge.specs.Runs.{after-any-calls}
 
 module _ {s : State} {mem : Memory} {b : Book} (H : Good s mem b) where
   -- ---- demand 2
 
-  unfinished : (e : Theory.Entry) → Theory.Pending (behind H .watch) e → Unfinished b e
-  unfinished e P = by (b .doing (e .who)) refl
+  pub under-way : (e : Theory.Entry) → Theory.Under (behind H .watch) e → UnderWay b e
+  under-way e u = by (b .doing (e .who)) refl
     where
-      lane : (d : Doing) → b .doing (e .who) ≡ d → laneFor d (laneOf s (e .who) .op) ≡ Theory.busy (e .op) (e .cell) (P .stage)
-      lane d k = sym (ap (λ (d : Doing). laneFor d (laneOf s (e .who) .op)) k) ∙ P .lane
+      lane : (d : Doing) → b .doing (e .who) ≡ d → laneFor d (laneOf s (e .who) .op) ≡ Theory.busy (e .op) (e .cell) (u .stage)
+      lane d k = sym (ap (λ (d : Doing). laneFor d (laneOf s (e .who) .op)) k) ∙ u .lane
 
-      by : (d : Doing) → b .doing (e .who) ≡ d → Unfinished b e
+      by : (d : Doing) → b .doing (e .who) ≡ d → UnderWay b e
       by nothing k = let l = lane nothing k in absurd (let y : _≡_ {A = ℕ} 0 1 = cc in omega arith)
       by (busy began o i taken) k =
           let l = lane (busy began o i taken) k in
           let op : o ≡ e .op = cc in
           let cell : i ≡ e .cell = cc in
-          let since : began ≡ e .began = sym (ap sinceOf k) ∙ P .since in
+          let since : began ≡ e .began = sym (ap sinceOf k) ∙ u .since in
           record {
             taken = taken;
             doing = k ∙ ap (λ (x : ℕ). busy x o i taken) since ∙ ap (λ (x : Theory.Op). busy (e .began) x i taken) op
                 ∙ ap (λ (x : ℕ). busy (e .began) (e .op) x taken) cell;
-            writes = rw (P .writes) tt;
           }
 
   pub one-order : OneOrder (fillOf (s .terms .first) (s .terms .step)) b
-  one-order = record { order = O .order; orderly = O .orderly; complete = O .complete; sound = λ e m. by e (O .sound e m) }
-    where
-      O : Theory.OneOrder (fillOf (s .terms .first) (s .terms .step)) (behind H .watch)
-      O = Theory.one-order (law H) (H .whole)
-
-      by : (e : Theory.Entry) → ((d : Theory.Done) × List·Memᴰ d (b .ended) × Theory.Is e d) ⊎ Theory.Pending (behind H .watch) e
-          → ((d : Theory.Done) × List·Memᴰ d (b .ended) × Theory.Is e d) ⊎ Unfinished b e
-      by e (inl x) = inl x
-      by e (inr x) = inr (unfinished e x)
+  one-order = Theory.order-as (Theory.one-order (law H) (H .whole))
+      (λ e m p. record { under-way = under-way e (p .under); writes = rw (p .writes) tt })
 
   -- ---- demand 3
 
@@ -88,7 +79,7 @@ module _ {s : State} {mem : Memory} {b : Book} (H : Good s mem b) where
           subst to (sym e) (rw d
           (reports (mostSteps o) (laneOf s q .steps) taken (g .next) (does H q d .1) (rw (← bounds o) (few-steps H q d))
           (λ op k. rw (← bounds o)
-          (few-steps (good-step H q d g) q (Theory.upd-same (b .doing) q (doingAfter began o i taken (g .next)) ∙ ap (doingAfter began o i taken) k)))))
+          (few-steps (good-step H q d g .good) q (Theory.upd-same (b .doing) q (doingAfter began o i taken (g .next)) ∙ ap (doingAfter began o i taken) k)))))
 
   -- ---- refusals
 
@@ -141,5 +132,5 @@ pub demanded : Demanded grid
 demanded = record {
   demand-1 = demand-1-holds;
   by-the-list = record { opens = λ z mem. refl; begins = λ s q a. refl; steps = λ s q mem. refl };
-  runs = λ z. after-any-calls z (Meets writing grid z) (λ r H. meets (with-terms z r) H);
+  runs = λ z. after-any-calls z (Meets writing grid z) (λ r H. subst (λ (z : Terms). Meets writing grid z r) (H .terms) (meets r (H .good)));
 }

@@ -3,7 +3,7 @@
 use Prim.Native.Nat.{ℕ, _<_}
 use mathlib.Core.Path.{_≡_, ap}
 use mathlib.Core.Logic.{_≢_}
-use mathlib.Core.List.{List, List·Memᴰ}
+use mathlib.Core.List.{List, _++_, List·Memᴰ}
 use Rattle.numbers.specs.Numbers.{fillOf}
 use Rattle.acts.specs.Worlds.{Reply, Result, World, world, grid, Call, begin, step, misfit, answerTo, worldAfter, Accepted, openedWorld}
 use Rattle.theory.specs.Interface as Theory
@@ -16,7 +16,9 @@ use Rattle.demands.specs.Demand2.{OneOrder}
 use Rattle.demands.specs.Demand3.{Counted, PoolSpent, PoolSuffices}
 use Rattle.demands.specs.Demanded.{expected, Meets}
 use Rattle.demands.specs.Vanishing.{NothingVanishes}
+use Rattle.demands.specs.Growing.{GrowingWith, OrderGrows}
 use Rattle.bridge.specs.Vanish as Vanish
+use Rattle.bridge.specs.Grows as Grows
 use Rattle.bridge.specs.Proved.{demanded}
 
 -- Demand 1: a refused call leaves the world as it was, whatever the world is.
@@ -35,6 +37,20 @@ first-stands-first {f} O d e md me before =
     let D = O .complete d md in
     let E = O .complete e me in
     Theory.real-time-order f (O .order) (O .orderly) (D .0) (E .0) (D .1) (E .1) d e (D .2) (E .2) before
+
+-- The order only grows (strong linearizability): a longer run's order is the shorter one's with entries put after it.
+pub the-order-only-grows : OrderGrows writing grid
+the-order-only-grows = Grows.only-grows
+
+-- Hence what is decided stays decided, in every growing order: an operation that has its place has it, with its answer, in
+-- every longer run's order; and if it ends there, it ends with that answer, its place not after its last step.
+module _ {Besides : Book → Theory.Entry → Type 0} {C : Type 0} {f : ℕ → ℕ} {book : List C → Book} (G : GrowingWith Besides f book)
+    (calls more : List C) (e : Theory.Entry) (m : List·Memᴰ e (G .orders calls .order)) where
+  pub decided-stays : List·Memᴰ e (G .orders (calls ++ more) .order)
+  decided-stays = Grows.stays G calls more e m
+
+  pub ends-as-decided : (d : Theory.Done) → List·Memᴰ d (book (calls ++ more) .ended) → d .began ≡ e .began → Theory.Is e d
+  ends-as-decided = Grows.ends-so G calls more e m
 
 -- Demands 2 and 3, after any calls on an opened grid.
 module _ (z : Terms) (mem : Memory) (ok : Accepted grid z mem) (calls : List (Call Ask z)) where

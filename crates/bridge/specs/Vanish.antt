@@ -16,7 +16,7 @@ use Rattle.demands.specs.Vanishing.{Shows, Wrote, once, still, Knows, NothingVa
 
 -- ---- what stands behind an entry
 
-orderly-at : (f : ℕ → ℕ) (newer older : List Entry) (e : Entry) → Orderly f (newer ++ (e ∷ older)) → Fits f e older × Orderly f older
+pub orderly-at : (f : ℕ → ℕ) (newer older : List Entry) (e : Entry) → Orderly f (newer ++ (e ∷ older)) → Fits f e older × Orderly f older
 orderly-at f [] older e h = h
 orderly-at f (x ∷ newer) older e h = orderly-at f newer older e (h .1)
 
@@ -34,7 +34,7 @@ stays x es i h = by (x .op)
     by (write v) = at (ℕ-discrete (x .cell) i)
 
 -- an entry whose answer shows its cell written has a write of the cell behind it, or is one
-shown : (f : ℕ → ℕ) (es : List Entry) (i : ℕ) → Orderly f es → (e : Entry) → List·Memᴰ e es → e .cell ≡ i → Shows (f i) (e .ans) → writtenIn es i ≡ true
+pub shown : (f : ℕ → ℕ) (es : List Entry) (i : ℕ) → Orderly f es → (e : Entry) → List·Memᴰ e es → e .cell ≡ i → Shows (f i) (e .ans) → writtenIn es i ≡ true
 unfolding written deeds
 shown f [] i h e m c s = elim m [ ]
 shown f (x ∷ es) i h e m c s = by (List·Memᴰ·cases-cons m) (shown f es i (h .1) e)
@@ -114,9 +114,10 @@ nothing-vanishes f b O d e md me before same shows = subst (Knows b (e .cell)) (
 
     known : ((x : Done) × List·Memᴰ x (b .ended) × Is (S .entry) x) ⊎ Unfinished b (S .entry) → Wrote b (e .cell) (valueIn f (B .older) (e .cell))
     known (inl x) = once (x .0) (x .1) (sym (x .2 .op) ∙ S .op) (sym (x .2 .cell) ∙ S .cell)
-    known (inr u) = still (S .entry .who) (S .entry .began) (u .taken)
-        (u .doing ∙ ap (λ (o : Op). busy (S .entry .began) o (S .entry .cell) (u .taken)) (S .op)
-        ∙ ap (λ (c : ℕ). busy (S .entry .began) (write (valueIn f (B .older) (e .cell))) c (u .taken)) (S .cell))
+    known (inr u) = let taken = u .under-way .taken in
+        still (S .entry .who) (S .entry .began) taken
+        (u .under-way .doing ∙ ap (λ (o : Op). busy (S .entry .began) o (S .entry .cell) taken) (S .op)
+        ∙ ap (λ (c : ℕ). busy (S .entry .began) (write (valueIn f (B .older) (e .cell))) c taken) (S .cell))
 
     by : (o : Op) → E .0 .ans ≡ answer f (deeds (B .older)) o (E .0 .cell) → Knows b (e .cell) (E .0 .ans)
     by read r =

@@ -1,4 +1,4 @@
--- What each call comes to in a good state, and that the next run is good.
+-- What each call comes to in a good state, and that the next run is good, its order grown.
 -- Assumes nothing.
 use Prim.Native.Nat.{ℕ, _<_}
 use mathlib.Core.Path.{_≡_, refl, sym, ap, _∙_, subst}
@@ -23,7 +23,7 @@ use Rattle.demands.specs.Agrees.{Does, LaneAgrees}
 use Rattle.demands.specs.Kinds.{askOp, writing}
 use Rattle.demands.specs.Demand1.{refused, begins, steps}
 use Rattle.demands.specs.Demanded.{expected}
-use Rattle.bridge.specs.Good.{Good, law, inside, at-work, does, lane-fits, top-fits, state-fits}
+use Rattle.bridge.specs.Good.{Good, Later, law, inside, at-work, does, lane-fits, top-fits, state-fits}
 use Rattle.bridge.specs.Goes.{Goes}
 use Rattle.bridge.specs.Writes.{goes-on}
 use Rattle.bridge.specs.Keep.{good-pass, starts, begunLane, good-begin}
@@ -112,9 +112,9 @@ module _ {s : State} {mem : Memory} {b : Book} (H : Good s mem b) where
   module _ (q : ℕ) {began taken : ℕ} {o : Theory.Op} {i : ℕ} (e : b .doing q ≡ busy began o i taken) (g : Goes H q o i (laneOf s q .op)) where
     numbers-fit : Grid.numbersFit (s .terms) (s .top) (laneOf s q) (g .change) (g .next) ≡ true
     numbers-fit =
-        rw (le-leb (topAfter (g .change) (s .top)) (poolWords (s .terms .p) (s .terms .m)) (top-fits (good-step H q e g)))
+        rw (le-leb (topAfter (g .change) (s .top)) (poolWords (s .terms .p) (s .terms .m)) (top-fits (good-step H q e g .good)))
         (subst (λ (l : Lane). laneFits (s .terms) l ≡ true)
-        (getD-set-same (s .lanes) q (steppedLane H q e g) rest (inside H q (own H q e g))) (lane-fits (good-step H q e g) q))
+        (getD-set-same (s .lanes) q (steppedLane H q e g) rest (inside H q (own H q e g))) (lane-fits (good-step H q e g .good) q))
 
     moved : judged q mem ≡ Verdict.Moved (g .change) (g .next)
     unfolding Grid.verdictOf
@@ -161,11 +161,15 @@ module _ {s : State} {mem : Memory} {b : Book} (H : Good s mem b) where
 abbrev pub GoodRun : Run State → Type 0
 GoodRun r = Good (r .world .state) (r .world .memory) (r .book)
 
-pub good-next : (r : Run State) → GoodRun r → (c : Call Ask (r .world .state .terms)) → GoodRun (next writing grid r c)
+-- A later run, with an order grown from this one's.
+abbrev pub LaterRun : {r : Run State} → GoodRun r → Run State → Type 0
+LaterRun H r = Later H (r .world .state) (r .world .memory) (r .book)
+
+pub good-next : (r : Run State) (H : GoodRun r) (c : Call Ask (r .world .state .terms)) → LaterRun {r = r} H (next writing grid r c)
 good-next r H (begin q a) = by (begins-as H q a)
   where
     to : Stepped → Type 0
-    to x = Good (x .state) (r .world .memory) (noteBegin (r .book) q (askOp a) (indexOf (r .world .state .terms) (Grid.cellOf a)) (x .answer))
+    to x = Later H (x .state) (r .world .memory) (noteBegin (r .book) q (askOp a) (indexOf (r .world .state .terms) (Grid.cellOf a)) (x .answer))
 
     by : Begins H q a → to (Grid.beginOf (r .world .state) q a)
     by (refuses k e x) = subst to (sym e) (good-pass H)
@@ -175,15 +179,15 @@ good-next r H (begin q a) = by (begins-as H q a)
 good-next r H (step q) = by (steps-as H q)
   where
     to : Grid.Outcome → Type 0
-    to x = Good (x .stepped .state) (x .memory) (noteStep (r .book) q (x .stepped .answer))
+    to x = Later H (x .stepped .state) (x .memory) (noteStep (r .book) q (x .stepped .answer))
 
     by : Steps H q → to (Grid.stepOf (r .world .state) q (r .world .memory))
     by (refuses-step k e x y) = subst to (sym e) (good-pass H)
     by (accepts-step d g e x) =
         subst to (sym e)
-        (subst (Good (steppedState H q d g) (steppedMemory H q d g))
+        (subst (Later H (steppedState H q d g) (steppedMemory H q d g))
         (sym (note-step (r .book) q (laneOf (r .world .state) q .steps) (g .next) d)) (good-step H q d g))
 good-next r H (misfit q lent h) = subst to (sym (misfits H q lent h)) (good-pass H)
   where
     to : Grid.Outcome → Type 0
-    to x = Good (x .stepped .state) (r .world .memory) (noteStep (r .book) q (x .stepped .answer))
+    to x = Later H (x .stepped .state) (r .world .memory) (noteStep (r .book) q (x .stepped .answer))

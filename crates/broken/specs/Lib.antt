@@ -3,3 +3,5 @@ pub mod Mistakes
 pub mod Lost
 pub mod Tight
 pub mod Shams
+pub mod Waiting
+pub mod Undecided

@@ -1,1 +1,2 @@
-// The demands bite: machines that must fail, histories that lose a reading, and runs that reach the bounds. Theorems in specs/.
+// The demands bite: machines that must fail, histories that lose a reading, runs that reach the bounds, and orders that cannot
+// grow. Theorems in specs/.

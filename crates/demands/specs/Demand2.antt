@@ -4,11 +4,9 @@
 -- Assumes nothing.
 use Prim.Native.Nat.{ℕ}
 use mathlib.Core.Path.{_≡_}
-use mathlib.Core.Logic.{_⊎_}
-use mathlib.Core.List.{List, List·Memᴰ}
 use Rattle.acts.specs.Worlds.{Machine}
 use Rattle.theory.specs.Array.{Writing}
-use Rattle.theory.specs.Order.{Done, Entry, Orderly, Is}
+use Rattle.theory.specs.Order.{Entry, OrderOf}
 use Rattle.demands.specs.Types.{Terms, Memory}
 use Rattle.demands.specs.Kinds.{Kind}
 use Rattle.demands.specs.Book.{busy, Book}
@@ -19,17 +17,17 @@ pub record ByTheList {S A : Type 0} (K : Kind S A) (M : Machine S A) : Type 0 wh
   pub begins : (s : S) (q : ℕ) (a : A) → M .begin s q a ≡ K .ours .begin s q a
   pub steps : (s : S) (q : ℕ) (mem : Memory) → M .step s q mem ≡ K .ours .step s q mem
 
--- The entry is an operation that the book shows under way, and one that counts as a write.
-pub record Unfinished (b : Book) (e : Entry) : Type 0 where
+-- The entry is an operation that the book shows under way; and one that counts as a write.
+pub record UnderWay (b : Book) (e : Entry) : Type 0 where
   pub taken : ℕ
   pub doing : b .doing (e .who) ≡ busy (e .began) (e .op) (e .cell) taken
+
+pub record Unfinished (b : Book) (e : Entry) : Type 0 where
+  pub under-way : UnderWay b e
   pub writes : Writing (e .op)
 
 -- One order, the newest first. `Orderly`: each answer is the array's after those before it; each operation takes its
 -- place after the call that began it, and not before any of those before it; none stands twice. `Is`: a finished
 -- operation stands with its process, cell and answer, and takes its place not after its last step.
-pub record OneOrder (f : ℕ → ℕ) (b : Book) : Type 0 where
-  pub order : List Entry
-  pub orderly : Orderly f order
-  pub complete : (d : Done) → List·Memᴰ d (b .ended) → (e : Entry) × List·Memᴰ e order × Is e d
-  pub sound : (e : Entry) → List·Memᴰ e order → ((d : Done) × List·Memᴰ d (b .ended) × Is e d) ⊎ Unfinished b e
+abbrev pub OneOrder : (ℕ → ℕ) → Book → Type 0
+OneOrder f b = OrderOf f (b .ended) (Unfinished b)

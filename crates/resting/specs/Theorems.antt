@@ -1,7 +1,7 @@
 -- The theorems, for all terms, every memory that open accepts, and all calls after which no operation is under way.
 -- Assumes nothing.
 use Prim.Native.Nat.{ℕ, _/_, _≤_, _<_}
-use mathlib.Core.Path.{_≡_, refl, ap, _∙_}
+use mathlib.Core.Path.{_≡_, refl, ap, _∙_, subst}
 use mathlib.Core.Logic.{inl, inr, _≢_}
 use mathlib.Core.List.{List, [], _∷_, List·Memᴰ, List·Memᴰ·head, List·Memᴰ·not-nil}
 use native.Mathlib.Decide.{decLt}
@@ -18,7 +18,7 @@ use Rattle.theory.specs.Order.{Done, Entry, Is, deeds, valueIn, writtenIn}
 use Rattle.demands.specs.Types.{Refusal, Terms, State, Memory, Ask}
 use Rattle.demands.specs.Book.{Run, run}
 use Rattle.bridge.specs.Views.{GoodRun}
-use Rattle.bridge.specs.Runs.{with-terms, after-any-calls}
+use Rattle.bridge.specs.Runs.{after-any-calls}
 use Rattle.bridge.specs.Theorems.{after}
 use Rattle.resting.specs.AtRest.{Resting, Tells, looked, filled, hourIn, FiveOrEighteen, Shown}
 use Rattle.resting.specs.Cells as Cells
@@ -39,7 +39,8 @@ good-shows r H rest = record {
 module _ (z : Terms) (mem : Memory) (ok : Accepted grid z mem) (calls : List (Call Ask z)) where
   -- THE THEOREM
   pub shown-at-rest : Resting z (after z mem ok calls) → Shown z (after z mem ok calls)
-  shown-at-rest = after-any-calls z (λ r. Resting z r → Shown z r) (λ r H. good-shows (with-terms z r) H) mem ok calls
+  shown-at-rest = after-any-calls z (λ r. Resting z r → Shown z r)
+      (λ r H. subst (λ (z : Terms). Resting z r → Shown z r) (H .terms) (good-shows r (H .good))) mem ok calls
 
   module _ (rest : Resting z (after z mem ok calls)) where
     abbrev pub state : State

@@ -10,7 +10,8 @@ use Rattle.theory.specs.Order.{Done, Entry, Is, valueIn, writtenIn}
 use Rattle.theory.specs.Machine.{Grid, idle, busy}
 use Rattle.theory.specs.Run.{Run}
 use Rattle.theory.specs.OrderLaws.{value-unwritten}
-use Rattle.theory.specs.Inv.{Under, CellOk, old, new}
+use Rattle.theory.specs.OneOrder.{Under}
+use Rattle.theory.specs.Inv.{CellOk, old, new}
 use Rattle.theory.specs.Whole.{Whole, worldOf}
 
 module _ {G : Grid} {R : Run} (H : Whole G R) where
@@ -32,7 +33,7 @@ module _ {G : Grid} {R : Run} (H : Whole G R) where
     pub all-ended : (e : Entry) → List·Memᴰ e (H .log) → (d : Done) × List·Memᴰ d (R .watch .ended) × Is e d
     all-ended e m =
         ⊎-elim (λ (h : (d : Done) × List·Memᴰ d (R .watch .ended) × Is e d). h)
-        (λ (u : Under G (H .oldLink) (worldOf H) e). absurd
+        (λ (u : Under (R .watch) e). absurd
         (let k : idle ≡ busy (e .op) (e .cell) (u .stage) = sym (still (e .who)) ∙ u .lane in let y : _≡_ {A = ℕ} 0 1 = cc in omega arith))
         (H .inv .logs .sound e m)
 

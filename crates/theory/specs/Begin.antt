@@ -14,7 +14,8 @@ use Rattle.theory.specs.Standing.{settledAt, settled}
 use Rattle.theory.specs.OrderLaws.{began-before}
 use Rattle.theory.specs.World.{World, Unplaced}
 use Rattle.theory.specs.Claims.{Stored}
-use Rattle.theory.specs.Inv.{StageOk, BusyOk, LaneOk, CellOk, old, new, Under, Inv}
+use Rattle.theory.specs.OneOrder.{Under}
+use Rattle.theory.specs.Inv.{StageOk, BusyOk, LaneOk, CellOk, old, new, Inv}
 use Rattle.theory.specs.ClaimsKept.{Frame}
 use Rattle.theory.specs.Frame.{lane-frame}
 
@@ -143,9 +144,9 @@ module _ {G : Grid} {oldLink : ℕ → Link} {W : World} (I : Inv G oldLink W) (
               v)
           by (no x) (no y) z = I .apart a r o₁ o₂ i₁ i₂ g₁ g₂ (sym (other a x) ∙ h) (sym (other r y) ∙ k) (sym (since-other a x) ∙ z ∙ since-other r y)
 
-      sound′ : (z : Entry) → List·Memᴰ z (W .log) → ((d : Done) × List·Memᴰ d (W .w .ended) × Is z d) ⊎ Under G oldLink opening z
+      sound′ : (z : Entry) → List·Memᴰ z (W .log) → ((d : Done) × List·Memᴰ d (W .w .ended) × Is z d) ⊎ Under (opening .w) z
       sound′ z m = ⊎-elim (λ (h : (d : Done) × List·Memᴰ d (W .w .ended) × Is z d). inl h)
-          (λ (u : Under G oldLink W z). let ne = not-me (z .who) (z .op) (z .cell) (u .stage) (u .lane) in inr
+          (λ (u : Under (W .w) z). let ne = not-me (z .who) (z .op) (z .cell) (u .stage) (u .lane) in inr
           (record { stage = u .stage; lane = other (z .who) ne ∙ u .lane; since = since-other (z .who) ne ∙ u .since }))
           (I .logs .sound z m)
 

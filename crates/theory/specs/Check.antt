@@ -2,7 +2,7 @@
 -- Assumes nothing.
 use mathlib.Core.Path.{_≡_, refl, sym, ap, _∙_}
 use mathlib.Core.Bool.{true, false}
-use mathlib.Core.List.{List, _∷_, List·Memᴰ·head, List·Memᴰ·tail}
+use mathlib.Core.List.{List, [], _∷_, _++_, List·Memᴰ·head, List·Memᴰ·tail}
 use Prim.Native.Nat.{ℕ, _<_}
 use native.Mathlib.Decide.{ℕ-discrete, decLt}
 use native.Mathlib.Omega.{arith}
@@ -88,28 +88,28 @@ module _ {G : Grid} {oldLink : ℕ → Link} {W : World} (I : Inv G oldLink W) (
   -- (a): an asked of a swapped cell takes its place here, and a read or an asked of an unswapped one
   module _ (i : ℕ) (nx : Next) where
     sure-order : (o : Op) (e : W .w .lane q ≡ busy o i Stage.checkLink) → writtenIn (W .log) i ≡ true
-        → (log : List Entry) × Mild I q e log × Sure G oldLink (after o i nx log) q o i
-    sure-order read e t = (W .log, Steps.mild-keep I q e, Steps.busyOk I q e .at)
+        → (newer : List Entry) × Mild I q e (newer ++ W .log) × Sure G oldLink (after o i nx (newer ++ W .log)) q o i
+    sure-order read e t = ([], Steps.mild-keep I q e, Steps.busyOk I q e .at)
     sure-order asked e t = (
-      _,
+      Log.entry (W .w) q asked i (told true) ∷ [],
       mild-look asked i Stage.checkLink e (told true) (λ z. z) (Steps.busyOk I q e .at) (ap told (sym t)),
       (W .w .now, List·Memᴰ·head refl),
     )
-    sure-order (write v) e t = (W .log, Steps.mild-keep I q e, ClaimsKept.wrote-same G oldLink W q (write v) i _ _ nx (Steps.busyOk I q e .at))
+    sure-order (write v) e t = ([], Steps.mild-keep I q e, ClaimsKept.wrote-same G oldLink W q (write v) i _ _ nx (Steps.busyOk I q e .at))
 
     dud-order : (o : Op) (e : W .w .lane q ≡ busy o i Stage.checkLink) → writtenIn (W .log) i ≡ false
-        → (log : List Entry) × Mild I q e log × Dud G oldLink (after o i nx log) q o i
+        → (newer : List Entry) × Mild I q e (newer ++ W .log) × Dud G oldLink (after o i nx (newer ++ W .log)) q o i
     dud-order read e t = (
-      _,
+      Log.entry (W .w) q read i (got (G .f i) false) ∷ [],
       mild-look read i Stage.checkLink e (got (G .f i) false) (λ z. z) (Steps.busyOk I q e .at) (rw (OrderLaws.value-unwritten (G .f) (W .log) i t, t)),
       (W .w .now, List·Memᴰ·head refl),
     )
     dud-order asked e t = (
-      _,
+      Log.entry (W .w) q asked i (told false) ∷ [],
       mild-look asked i Stage.checkLink e (told false) (λ z. z) (Steps.busyOk I q e .at) (ap told (sym t)),
       (W .w .now, List·Memᴰ·head refl),
     )
-    dud-order (write v) e t = (W .log, Steps.mild-keep I q e, ClaimsKept.wrote-same G oldLink W q (write v) i _ _ nx (Steps.busyOk I q e .at))
+    dud-order (write v) e t = ([], Steps.mild-keep I q e, ClaimsKept.wrote-same G oldLink W q (write v) i _ _ nx (Steps.busyOk I q e .at))
 
   pub check-link : (o : Op) (i : ℕ) → W .w .lane q ≡ busy o i Stage.checkLink → KeptAt G oldLink W q o i Stage.checkLink
   unfolding Kept
@@ -126,11 +126,11 @@ module _ {G : Grid} {oldLink : ℕ → Link} {W : World} (I : Inv G oldLink W) (
 
       by : CellOk G oldLink W i → (d : Dec (S .at .proc < G .p)) → Kept G oldLink W q o i (turnTo keep (pick d on off)) (W .used)
       by (new t y v p₀ p₁ p₂) (yes k) = let s = sure-order i on o e y in
-          (s .0, Steps.go-quiet I q e (s .0) (s .1) (Stage.checkMarks S) tt tt refl (sure t refl (s .2), k))
+          (s .0, Steps.go-quiet I q e (s .0 ++ W .log) (s .1) (Stage.checkMarks S) tt tt refl (sure t refl (s .2), k))
       by (new t y v p₀ p₁ p₂) (no k) = absurd (k p₀)
       by (old t h s) (yes k) = let s = dud-order i on o e t in
-          (s .0, Steps.go-quiet I q e (s .0) (s .1) (Stage.checkMarks S) tt tt refl (dud h (s .2), k))
-      by (old t h s) (no k) = let s = dud-order i off o e t in (s .0, fail-keep o i Stage.checkLink e tt refl S h (s .0) (s .1) (s .2))
+          (s .0, Steps.go-quiet I q e (s .0 ++ W .log) (s .1) (Stage.checkMarks S) tt tt refl (dud h (s .2), k))
+      by (old t h s) (no k) = let s = dud-order i off o e t in (s .0, fail-keep o i Stage.checkLink e tt refl S h (s .0 ++ W .log) (s .1) (s .2))
 
   -- a later step of the check goes on, or fails
   goes : (o : Op) (i : ℕ) (g : Stage) (e : W .w .lane q ≡ busy o i g) (g′ : Stage) → After g → After g′
@@ -154,19 +154,19 @@ module _ {G : Grid} {oldLink : ℕ → Link} {W : World} (I : Inv G oldLink W) (
       by : Judged G oldLink W q o i S → (d : Dec (S .at .place < M .inForce (S .at .proc)))
           → Kept G oldLink W q o i (turnTo keep (pick d (go (Stage.checkDirectory S)) (failed G M q o i S))) (W .used)
       by j (yes k) = (
-        W .log,
+        [],
         goes o i (Stage.checkMarks S) e (Stage.checkDirectory S) tt tt refl
             (judged-same o i S (go (Stage.checkDirectory S)) j, b .at .1, omega (arith, k, I .counts (S .at .proc) .1)),
       )
       by (sure t h s) (no k) = absurd (k (rw h at (swapped-cell I i (b .cell) t .in-force)))
-      by (dud h s) (no k) = (W .log, fails o i (Stage.checkMarks S) e tt refl S h s)
+      by (dud h s) (no k) = ([], fails o i (Stage.checkMarks S) e tt refl S h s)
 
   -- (c)
   pub check-directory : (o : Op) (i : ℕ) (S : Seen) → W .w .lane q ≡ busy o i (Stage.checkDirectory S)
       → KeptAt G oldLink W q o i (Stage.checkDirectory S)
   unfolding Kept
   check-directory o i S e = let b = Steps.busyOk I q e in (
-    W .log,
+    [],
     goes o i (Stage.checkDirectory S) e (Stage.checkMark S) tt tt refl (judged-same o i S (go (Stage.checkMark S)) (b .at .0), b .at .1, b .at .2),
   )
 
@@ -190,16 +190,16 @@ module _ {G : Grid} {oldLink : ℕ → Link} {W : World} (I : Inv G oldLink W) (
 
       by : Judged G oldLink W q o i S → (d : Dec (M .marks (S .at .proc) (S .at .place) ≡ G .code i))
           → Kept G oldLink W q o i (turnTo keep (pick d (passed o) (failed G M q o i S))) (W .used)
-      by (sure t h s) (yes k) = (W .log, pass-keep o i S e t s)
+      by (sure t h s) (yes k) = ([], pass-keep o i S e t s)
       by (sure t h s) (no k) = absurd (k (rw h at (swapped-cell I i (b .cell) t .reads-back)))
       by (dud h s) (yes k) = absurd (I .places (S .at .proc) (S .at .place) i (b .cell) (b .at .2) k (sym h))
-      by (dud h s) (no k) = (W .log, fails o i (Stage.checkMark S) e tt refl S h s)
+      by (dud h s) (no k) = ([], fails o i (Stage.checkMark S) e tt refl S h s)
 
   -- a read of a written cell takes its place as it reads
   pub fetches : (o : Op) (i : ℕ) → W .w .lane q ≡ busy o i Stage.fetch → KeptAt G oldLink W q o i Stage.fetch
   unfolding Kept
   fetches read i e = (
-    Log.entry (W .w) q read i a ∷ W .log,
+    Log.entry (W .w) q read i a ∷ [],
     Steps.end-quiet I q e _ (mild-look read i Stage.fetch e a (λ z. z) (b .at .2) (rw (C .holds, C .is-written))) a (W .w .now) refl
         (λ v z. absurd z) (List·Memᴰ·head refl),
   )

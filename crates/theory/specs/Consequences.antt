@@ -1,14 +1,17 @@
 -- What the whole invariant gives: one order, counted steps, a pool that never runs short, every number in its range.
 -- Assumes nothing.
 use mathlib.Core.Path.{_≡_, refl, sym, ap, _∙_}
+use mathlib.Core.Logic.{inl, inr, ⊎-elim}
+use mathlib.Core.List.{List·Memᴰ}
 use Prim.Native.Nat.{ℕ, suc, _+_, _*_, _-_, _^_, _≤_, _<_}
 use native.Mathlib.Omega.{arith}
 use Rattle.theory.specs.Array.{Op}
+use Rattle.theory.specs.Order.{Done, Is, OrderOf}
 use Rattle.theory.specs.Segments.{off-inside, pow-pos}
 use Rattle.theory.specs.Machine.{Grid, mostMarks, poolWords, Lawful, Seen, Marking, Stage, marking, busy, Mem}
 use Rattle.theory.specs.Words.{address}
 use Rattle.theory.specs.Run.{Run}
-use Rattle.theory.specs.OneOrder.{OneOrder}
+use Rattle.theory.specs.OneOrder.{Under, OneOrder}
 use Rattle.theory.specs.Standing.{Standing, nowhere, making, entering, stamping, hanging, standing, frontAt, front, readyBy, readyAt, ready}
 use Rattle.theory.specs.Inv.{BusyOk}
 use Rattle.theory.specs.Steps.{busyOk}
@@ -31,6 +34,17 @@ module _ {G : Grid} (A : Lawful G) {R : Run} (H : Whole G R) where
   -- one order of all ended operations and some writes under way
   pub one-order : OneOrder (G .f) (R .watch)
   one-order = sieved-order (H .inv)
+
+  -- the order so far: all ended operations and some under way, each with its place at a call already made
+  abbrev pub order-so-far : OrderOf (G .f) (R .watch .ended) (λ e. Under (R .watch) e × (e .at < R .watch .now))
+  order-so-far = record {
+    order = H .log;
+    orderly = H .inv .logs .orderly;
+    complete = H .inv .logs .complete;
+    sound = λ e m.
+        ⊎-elim (λ (h : (d : Done) × List·Memᴰ d (R .watch .ended) × Is e d). inl h)
+        (λ (u : Under (R .watch) e). inr (u, H .inv .logs .early e m)) (H .inv .logs .sound e m);
+  }
 
   -- an operation under way has taken fewer steps than its bound
   pub steps-under-way : (q : ℕ) {o : Op} {i : ℕ} {g : Stage} → R .watch .lane q ≡ busy o i g → R .taken q < bound o

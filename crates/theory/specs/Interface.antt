@@ -3,7 +3,8 @@
 pub use Rattle.theory.specs.Base.{pick, upd-same, upd-other}
 unfoldable pub use Rattle.theory.specs.Base.{upd}
 pub use Rattle.theory.specs.Array.{Op, read, asked, write, Ans, got, told, done}
-pub use Rattle.theory.specs.Order.{Done, Entry, Orderly, Is, Before, valueIn, writtenIn}
+pub use Rattle.theory.specs.Order.{Done, Entry, Orderly, Is, OrderOf, Grown, Before, valueIn, writtenIn}
+pub use Rattle.theory.specs.OrderLaws.{unique, order-as, grown-same, grown-on, grown-keeps}
 pub use Rattle.theory.specs.Shape.{Shape}
 -- the machine
 pub use Rattle.theory.specs.Machine.{Grid, mostMarks, poolWords, Link, mk, Seen}
@@ -18,17 +19,17 @@ pub use Rattle.theory.specs.Run.{Tally, tallied, Call, begin, step, Run,
 unfoldable pub use Rattle.theory.specs.Run.{afterCalls}
 -- the invariant
 pub use Rattle.theory.specs.Machine.{Lawful}
-pub use Rattle.theory.specs.Whole.{Whole, whole-opened, whole-rest, whole-pass, whole-begin, whole-step, whole-call, whole-run}
+pub use Rattle.theory.specs.Whole.{Whole, Later, whole-opened, whole-rest, whole-pass, whole-begin, whole-step, whole-call, whole-run}
 -- its consequences
 unfoldable pub use Rattle.theory.specs.Sum.{sum}
 pub use Rattle.theory.specs.Standing.{front, frontAt}
-pub use Rattle.theory.specs.OneOrder.{Pending, OneOrder}
+pub use Rattle.theory.specs.OneOrder.{Under, Pending, OneOrder}
 pub use Rattle.theory.specs.Ticks.{bound}
 pub use Rattle.theory.specs.Touch.{Inside, TouchIn, Touch}
-pub use Rattle.theory.specs.Consequences.{one-order, steps-under-way, pool-bound, top-fits, drawn-fits, marks-fit}
+pub use Rattle.theory.specs.Consequences.{one-order, order-so-far, steps-under-way, pool-bound, top-fits, drawn-fits, marks-fit}
 pub use Rattle.theory.specs.Consequences.{front-fits, process-fits, cell-fits, place-read, touches, mark-read}
 pub use Rattle.theory.specs.AtRest.{CellAtRest, unwritten, written, all-ended, cell-at-rest}
-pub use Rattle.theory.specs.RealTime.{ended-first, real-time-order}
+pub use Rattle.theory.specs.RealTime.{ended-first, real-time-order, new-after-old}
 -- a part of the cells; operations one after another
 pub use Rattle.theory.specs.Part.{named, namedDone, named-is, partOf, partDone, Came, came, stays, part-orderly}
 unfoldable pub use Rattle.theory.specs.Part.{chosen}

@@ -8,6 +8,7 @@ use Prim.Native.Nat.{ℕ, suc, _≤_, _<_}
 use Rattle.theory.specs.Array.{Op, read}
 use Rattle.theory.specs.Order.{Done, Entry, Orderly, Is, valueIn, writtenIn}
 use Rattle.theory.specs.Machine.{Grid, Link, mk, Seen, Marking, Stage, marking, Lane, idle, busy, Mem}
+use Rattle.theory.specs.OneOrder.{Under}
 use Rattle.theory.specs.Standing.{settled}
 use Rattle.theory.specs.World.{World, Swapped, Unplaced}
 use Rattle.theory.specs.Claims.{Writes, Stored, Fresh, Sure, Dud, Mine}
@@ -76,19 +77,13 @@ module _ (G : Grid) (oldLink : ℕ → Link) (W : World) where
         → W .w .mem .link i .place < settled (W .w .lane (W .w .mem .link i .proc)) (W .w .mem .inForce (W .w .mem .link i .proc))
         → W .w .mem .marks (W .w .mem .link i .proc) (W .w .mem .link i .place) ≡ G .code i → CellOk i
 
-  -- the entry is an operation under way
-  pub record Under (e : Entry) : Type 0 where
-    pub stage : Stage
-    pub lane : W .w .lane (e .who) ≡ busy (e .op) (e .cell) stage
-    pub since : W .w .since (e .who) ≡ e .began
-
   -- The order so far: orderly, before now; every ended operation is in it, and besides only operations under way; and no
   -- ended operation is under way.
   pub record LogOk : Type 0 where
     pub orderly : Orderly (G .f) (W .log)
     pub early : (e : Entry) → List·Memᴰ e (W .log) → e .at < W .w .now
     pub complete : (d : Done) → List·Memᴰ d (W .w .ended) → (e : Entry) × List·Memᴰ e (W .log) × Is e d
-    pub sound : (e : Entry) → List·Memᴰ e (W .log) → ((d : Done) × List·Memᴰ d (W .w .ended) × Is e d) ⊎ Under e
+    pub sound : (e : Entry) → List·Memᴰ e (W .log) → ((d : Done) × List·Memᴰ d (W .w .ended) × Is e d) ⊎ Under (W .w) e
     pub over : (d : Done) → List·Memᴰ d (W .w .ended) → (q : ℕ) (o : Op) (i : ℕ) (g : Stage) → W .w .lane q ≡ busy o i g
         → d .began ≢ W .w .since q
 

@@ -12,7 +12,8 @@ use Rattle.theory.specs.Order.{Done, Entry, deeds, Orderly, Is}
 use Rattle.theory.specs.Machine.{Grid, Link, Stage, idle, busy, Mem, Next, go, end, Watch, nextLane, finish}
 use Rattle.theory.specs.OrderLaws.{unique}
 use Rattle.theory.specs.World.{World}
-use Rattle.theory.specs.Inv.{Under, LogOk, Inv}
+use Rattle.theory.specs.OneOrder.{Under}
+use Rattle.theory.specs.Inv.{LogOk, Inv}
 
 -- the entry of process q's operation, taking effect now
 abbrev pub entry : Watch → ℕ → Op → ℕ → Ans → Entry
@@ -32,7 +33,7 @@ module _ (G : Grid) (oldLink : ℕ → Link) (W : World) where
     pub orderly : Orderly (G .f) log
     pub early : (e : Entry) → List·Memᴰ e log → e .at ≤ W .w .now
     pub complete : (d : Done) → List·Memᴰ d (W .w .ended) → (e : Entry) × List·Memᴰ e log × Is e d
-    pub sound : (e : Entry) → List·Memᴰ e log → ((d : Done) × List·Memᴰ d (W .w .ended) × Is e d) ⊎ Under G oldLink W e
+    pub sound : (e : Entry) → List·Memᴰ e log → ((d : Done) × List·Memᴰ d (W .w .ended) × Is e d) ⊎ Under (W .w) e
     pub over : (d : Done) → List·Memᴰ d (W .w .ended) → (q : ℕ) (o : Op) (i : ℕ) (g : Stage) → W .w .lane q ≡ busy o i g → d .began ≢ W .w .since q
     pub apart : (q r : ℕ) (o o′ : Op) (i i′ : ℕ) (g g′ : Stage) → W .w .lane q ≡ busy o i g → W .w .lane r ≡ busy o′ i′ g′
         → W .w .since q ≡ W .w .since r → q ≡ r
@@ -66,10 +67,10 @@ module _ {G : Grid} {oldLink : ℕ → Link} {W : World} where
       early′ : (z : Entry) → List·Memᴰ z (x ∷ log) → z .at ≤ W .w .now
       early′ z m = ⊎-elim (λ (h : z ≡ x). rw h (omega arith)) (λ (h : List·Memᴰ z log). P .early z h) (List·Memᴰ·cases-cons m)
 
-      under : Under G oldLink W x
+      under : Under (W .w) x
       under = record { stage = g; lane = e; since = refl }
 
-      sound′ : (z : Entry) → List·Memᴰ z (x ∷ log) → ((d : Done) × List·Memᴰ d (W .w .ended) × Is z d) ⊎ Under G oldLink W z
+      sound′ : (z : Entry) → List·Memᴰ z (x ∷ log) → ((d : Done) × List·Memᴰ d (W .w .ended) × Is z d) ⊎ Under (W .w) z
       sound′ z m = ⊎-elim (λ (h : z ≡ x). inr (rw h under)) (λ (h : List·Memᴰ z log). P .sound z h) (List·Memᴰ·cases-cons m)
 
   module _ (q : ℕ) {o : Op} {i : ℕ} {g : Stage} (e : W .w .lane q ≡ busy o i g) (M : Mem) (used : ℕ → ℕ) where
@@ -85,10 +86,10 @@ module _ {G : Grid} {oldLink : ℕ → Link} {W : World} where
               by (yes h) = rw h (P .over d m q o i g e)
               by (no h) = P .over d m r o₁ i₁ g₁ (sym (upd-other (W .w .lane) q (busy o i g′) r h) ∙ k)
 
-          still : (z : Entry) → Under G oldLink W z → Under G oldLink (turned W q o i M used (go g′) log) z
+          still : (z : Entry) → Under (W .w) z → Under (turned W q o i M used (go g′) log .w) z
           still z u = by (ℕ-discrete (z .who) q)
             where
-              by : Dec (z .who ≡ q) → Under G oldLink (turned W q o i M used (go g′) log) z
+              by : Dec (z .who ≡ q) → Under (turned W q o i M used (go g′) log .w) z
               by (yes k) = record {
                 stage = g′;
                 lane = rw k (rw upd-same (let h : busy (z .op) (z .cell) (u .stage) ≡ busy o i g = sym (u .lane) ∙ ap (W .w .lane) k ∙ e in cc));
@@ -96,8 +97,8 @@ module _ {G : Grid} {oldLink : ℕ → Link} {W : World} where
               }
               by (no k) = record { stage = u .stage; lane = upd-other (W .w .lane) q (busy o i g′) (z .who) k ∙ u .lane; since = u .since }
 
-          sound′ : (z : Entry) → List·Memᴰ z log → ((d : Done) × List·Memᴰ d (W .w .ended) × Is z d) ⊎ Under G oldLink (turned W q o i M used (go g′) log) z
-          sound′ z m = ⊎-elim (λ (h : (d : Done) × List·Memᴰ d (W .w .ended) × Is z d). inl h) (λ (h : Under G oldLink W z). inr (still z h)) (P .sound z m)
+          sound′ : (z : Entry) → List·Memᴰ z log → ((d : Done) × List·Memᴰ d (W .w .ended) × Is z d) ⊎ Under (turned W q o i M used (go g′) log .w) z
+          sound′ z m = ⊎-elim (λ (h : (d : Done) × List·Memᴰ d (W .w .ended) × Is z d). inl h) (λ (h : Under (W .w) z). inr (still z h)) (P .sound z m)
 
       pub log-end : (a : Ans) (t : ℕ) → List·Memᴰ (record { at = t; began = W .w .since q; who = q; op = o; cell = i; ans = a }) log
           → LogOk G oldLink (turned W q o i M used (end a) log)
@@ -129,16 +130,16 @@ module _ {G : Grid} {oldLink : ℕ → Link} {W : World} where
           complete′ : (d : Done) → List·Memᴰ d (now-done ∷ W .w .ended) → (z : Entry) × List·Memᴰ z log × Is z d
           complete′ d m = ⊎-elim (λ (h : d ≡ now-done). (x, here, rw h x-is)) (λ (h : List·Memᴰ d (W .w .ended)). P .complete d h) (List·Memᴰ·cases-cons m)
 
-          still : (z : Entry) → List·Memᴰ z log → Under G oldLink W z
-              → ((d : Done) × List·Memᴰ d (now-done ∷ W .w .ended) × Is z d) ⊎ Under G oldLink (turned W q o i M used (end a) log) z
+          still : (z : Entry) → List·Memᴰ z log → Under (W .w) z
+              → ((d : Done) × List·Memᴰ d (now-done ∷ W .w .ended) × Is z d) ⊎ Under (turned W q o i M used (end a) log .w) z
           still z m u = by (ℕ-discrete (z .who) q)
             where
-              by : Dec (z .who ≡ q) → ((d : Done) × List·Memᴰ d (now-done ∷ W .w .ended) × Is z d) ⊎ Under G oldLink (turned W q o i M used (end a) log) z
+              by : Dec (z .who ≡ q) → ((d : Done) × List·Memᴰ d (now-done ∷ W .w .ended) × Is z d) ⊎ Under (turned W q o i M used (end a) log .w) z
               by (yes k) = inl (now-done, List·Memᴰ·head refl, rw (unique (G .f) log (P .orderly) z x m here (sym (u .since) ∙ ap (W .w .since) k)) x-is)
               by (no k) = inr (record { stage = u .stage; lane = upd-other (W .w .lane) q idle (z .who) k ∙ u .lane; since = u .since })
 
           sound′ : (z : Entry) → List·Memᴰ z log
-              → ((d : Done) × List·Memᴰ d (now-done ∷ W .w .ended) × Is z d) ⊎ Under G oldLink (turned W q o i M used (end a) log) z
+              → ((d : Done) × List·Memᴰ d (now-done ∷ W .w .ended) × Is z d) ⊎ Under (turned W q o i M used (end a) log .w) z
           sound′ z m =
               ⊎-elim (λ (h : (d : Done) × List·Memᴰ d (W .w .ended) × Is z d). inl (h .0, List·Memᴰ·tail (h .1), h .2))
-              (λ (h : Under G oldLink W z). still z m h) (P .sound z m)
+              (λ (h : Under (W .w) z). still z m h) (P .sound z m)

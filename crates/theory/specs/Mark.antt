@@ -3,6 +3,7 @@
 use mathlib.Core.Path.{_≡_, refl, sym, ap, _∙_}
 use mathlib.Core.Logic.{_≢_}
 use mathlib.Core.Bool.{Bool, true}
+use mathlib.Core.List.{[]}
 use Prim.Native.Nat.{ℕ, suc, _≤_, _<_, max}
 use native.Mathlib.Decide.{ℕ-discrete}
 use native.Mathlib.Omega.{arith}
@@ -43,7 +44,7 @@ module _ {G : Grid} {oldLink : ℕ → Link} {W : World} (I : Inv G oldLink W) (
   pub draws : (s : Bool) (S : Seen) (n : ℕ) → W .w .lane q ≡ busy o i (marking (Marking.draw s S n)) → KeptAt G oldLink W q o i (marking (Marking.draw s S n))
   unfolding Kept
   draws s S n e = let h = Steps.busyOk I q e .at .1 in (
-    W .log,
+    [],
     go-on (Marking.draw s S n) (Marking.enter s S n) e (M .inForce) (upd (M .drawn) q (suc (G .shape .seg n))) (M .marks) (W .used)
         (Steps.own-same I q e _ (λ r. refl) (λ r n. refl) (go (marking (Marking.enter s S n))) refl)
         (record { bad = h .0 .bad; low = h .0 .low; high = h .0 .high }, h .1),
@@ -53,7 +54,7 @@ module _ {G : Grid} {oldLink : ℕ → Link} {W : World} (I : Inv G oldLink W) (
       → KeptAt G oldLink W q o i (marking (Marking.enter s S n))
   unfolding Kept
   enters s S n e = let h = Steps.busyOk I q e .at .1 in (
-    W .log,
+    [],
     go-on (Marking.enter s S n) (usePlace s q S n) e (M .inForce) (M .drawn) (M .marks) (W .used)
         (Steps.own-same I q e M (λ r. refl) (λ r n. refl) (go (marking (usePlace s q S n))) (Plan.use-stands s q S n (M .inForce q) (h .1) .settled))
         (Plan.use-ok G oldLink M (W .used) s q i S n (h .0) (h .1)),
@@ -109,7 +110,7 @@ module _ {G : Grid} {oldLink : ℕ → Link} {W : World} (I : Inv G oldLink W) (
       → KeptAt G oldLink W q o i (marking (Marking.tombstone S n))
   unfolding Kept
   tombstones A S n e = (
-    W .log,
+    [],
     go-on (Marking.tombstone S n) k′ e (M .inForce) (M .drawn) (stamped n (G .grave) .marks) (raised n)
         (own-stamp (Marking.tombstone S n) e n (G .grave) k′ refl (st .settled) (h .0 .low) (h .0 .high) (λ j hj k. absurd (A .apart j hj k)))
         (Plan.plan-ok G oldLink (stamped n (G .grave)) (raised n) true q i S (suc n)
@@ -130,7 +131,7 @@ module _ {G : Grid} {oldLink : ℕ → Link} {W : World} (I : Inv G oldLink W) (
       → KeptAt G oldLink W q o i (marking (Marking.mark S n))
   unfolding Kept
   marks-place A S n e = (
-    W .log,
+    [],
     go-on (Marking.mark S n) (Marking.force S n) e (M .inForce) (M .drawn) (stamped n (G .code i) .marks) (raised n)
         (own-stamp (Marking.mark S n) e n (G .code i) (Marking.force S n) refl refl (h .0 .low) (h .0 .high) fine)
         (record { bad = h .0 .bad; high = rw (raised-own n) (omega arith); there = stamped-same n (G .code i) }, h .0 .low),
@@ -146,7 +147,7 @@ module _ {G : Grid} {oldLink : ℕ → Link} {W : World} (I : Inv G oldLink W) (
   pub forces : (S : Seen) (n : ℕ) → W .w .lane q ≡ busy o i (marking (Marking.force S n)) → KeptAt G oldLink W q o i (marking (Marking.force S n))
   unfolding Kept
   forces S n e = (
-    W .log,
+    [],
     go-on (Marking.force S n) (Marking.swap S n) e (upd (M .inForce) q (suc n)) (M .drawn) (M .marks) (W .used)
         (record {
           inForce = λ r ne. upd-other (M .inForce) q (suc n) r ne;
@@ -198,4 +199,4 @@ pub takes-back : {G : Grid} {oldLink : ℕ → Link} {W : World} (I : Inv G oldL
 unfolding Kept
 takes-back I q read i n e = absurd (Steps.busyOk I q e .at .0)
 takes-back I q asked i n e = absurd (Steps.busyOk I q e .at .0)
-takes-back I q (write v) i n e = (_, back-ends I q (write v) i n e (Steps.busyOk I q e .at .0))
+takes-back I q (write v) i n e = ([], back-ends I q (write v) i n e (Steps.busyOk I q e .at .0))

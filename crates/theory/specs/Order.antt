@@ -1,7 +1,7 @@
 -- One order of operations: what a list of operations, the newest first, has to say of itself.
 -- Assumes nothing.
 use mathlib.Core.Path.{_≡_}
-use mathlib.Core.Logic.{_≢_}
+use mathlib.Core.Logic.{_⊎_, _≢_}
 use mathlib.Core.Bool.{Bool}
 use mathlib.Core.List.{List, [], _∷_, _++_, List·Memᴰ}
 use Prim.Native.Nat.{ℕ, _≤_, _<_}
@@ -56,6 +56,18 @@ pub record Is (e : Entry) (d : Done) : Type 0 where
   pub cell : e .cell ≡ d .cell
   pub ans : e .ans ≡ d .ans
   pub intime : e .at ≤ d .ended
+
+-- One order of ended operations, the newest first: each stands in it, and besides them only entries with this property.
+pub record OrderOf (f : ℕ → ℕ) (ended : List Done) (Besides : Entry → Type 0) : Type 0 where
+  pub order : List Entry
+  pub orderly : Orderly f order
+  pub complete : (d : Done) → List·Memᴰ d ended → (e : Entry) × List·Memᴰ e order × Is e d
+  pub sound : (e : Entry) → List·Memᴰ e order → ((d : Done) × List·Memᴰ d ended × Is e d) ⊎ Besides e
+
+-- the later order is the earlier one with entries put after it: in the list, newest first, in front of it
+pub record Grown (earlier later : List Entry) : Type 0 where
+  pub newer : List Entry
+  pub split : later ≡ newer ++ earlier
 
 -- d stands before e: in the list, newest first, d is among those behind e
 pub record Before (d e : Entry) (order : List Entry) : Type 0 where

@@ -1,15 +1,15 @@
--- Laws of the array along an order: what one more operation changes, and what holds of an orderly list.
+-- Laws of the array along an order: what one more operation changes, what holds of an orderly list, and how orders grow.
 -- Assumes nothing.
-use mathlib.Core.Path.{_≡_, refl, sym, ap, _∙_}
+use mathlib.Core.Path.{_≡_, refl, sym, ap, _∙_, subst}
 use mathlib.Core.Logic.{_⊎_, inl, inr, ⊎-elim, _≢_}
 use mathlib.Core.Bool.{Bool, true, false}
-use mathlib.Core.List.{List, [], _∷_, List·Memᴰ, List·Memᴰ·cases-cons}
+use mathlib.Core.List.{List, [], _∷_, _++_, append-assoc, List·Memᴰ, List·Memᴰ·cases-cons, Memᴰ·append-right}
 use Prim.Native.Nat.{ℕ, _<_}
 use native.Mathlib.Decide.{ℕ-discrete}
 use native.Mathlib.Omega.{arith}
 use Rattle.theory.specs.Base.{pick}
 use Rattle.theory.specs.Array.{Op, read, asked, write, valueBy, writtenBy, value, written}
-use Rattle.theory.specs.Order.{Entry, deeds, Orderly, valueIn, writtenIn}
+use Rattle.theory.specs.Order.{Done, Entry, deeds, Orderly, Is, OrderOf, Grown, valueIn, writtenIn}
 
 pub no-false : {A : Type 0} → true ≡ false → A
 no-false k = absurd (let y : _≡_ {A = ℕ} 0 1 = cc in omega arith)
@@ -44,6 +44,29 @@ unique f (x ∷ es) h d e md me k = by (List·Memᴰ·cases-cons md) (List·Mem�
 pub began-before : (f : ℕ → ℕ) (es : List Entry) → Orderly f es → (z : Entry) → List·Memᴰ z es → z .began < z .at
 began-before f [] h z m = elim m [ ]
 began-before f (x ∷ es) h z m = ⊎-elim (λ (k : z ≡ x). rw k (h .0 .after)) (λ (k : List·Memᴰ z es). began-before f es (h .1) z k) (List·Memᴰ·cases-cons m)
+
+-- the same order, where what stands in it besides ended operations has another property too
+abbrev pub order-as : {f : ℕ → ℕ} {ended : List Done} {P Q : Entry → Type 0} (O : OrderOf f ended P)
+    → ((e : Entry) → List·Memᴰ e (O .order) → P e → Q e) → OrderOf f ended Q
+order-as {ended = ended} {P} O h = record {
+  order = O .order;
+  orderly = O .orderly;
+  complete = O .complete;
+  sound = λ e m. ⊎-elim (λ (x : (d : Done) × List·Memᴰ d ended × Is e d). inl x) (λ (x : P e). inr (h e m x)) (O .sound e m);
+}
+
+-- an order grows by nothing, and step by step; what stands in it stays
+pub grown-same : (es : List Entry) → Grown es es
+grown-same es = record { newer = []; split = refl }
+
+pub grown-on : {a b c : List Entry} → Grown a b → Grown b c → Grown a c
+grown-on {a} g h = record {
+  newer = h .newer ++ g .newer;
+  split = h .split ∙ ap (λ (es : List Entry). h .newer ++ es) (g .split) ∙ sym (append-assoc (h .newer) (g .newer) a);
+}
+
+pub grown-keeps : {a b : List Entry} → Grown a b → (e : Entry) → List·Memᴰ e a → List·Memᴰ e b
+grown-keeps g e m = subst (List·Memᴰ e) (sym (g .split)) (Memᴰ·append-right (g .newer) m)
 
 -- the array after one more write
 pub value-here : (f : ℕ → ℕ) (x : Entry) (es : List Entry) (v i : ℕ) → x .op ≡ write v → x .cell ≡ i → valueIn f (x ∷ es) i ≡ v

@@ -9,7 +9,8 @@ use Rattle.theory.specs.Array.{Op}
 use Rattle.theory.specs.Order.{Done, Entry, Is}
 use Rattle.theory.specs.Machine.{Grid, Link, Stage, busy}
 use Rattle.theory.specs.World.{World}
-use Rattle.theory.specs.Inv.{CellOk, old, new, Under, Inv}
+use Rattle.theory.specs.OneOrder.{Under}
+use Rattle.theory.specs.Inv.{CellOk, old, new, Inv}
 use Rattle.theory.specs.ClaimsKept.{Frame}
 use Rattle.theory.specs.Frame.{lane-frame}
 
@@ -51,7 +52,7 @@ module _ {G : Grid} {oldLink : ℕ → Link} {W : World} (I : Inv G oldLink W) (
       early = λ z m. omega (arith, I .logs .early z m);
       complete = I .logs .complete;
       sound = λ z m.
-          ⊎-elim (λ (h : (d : Done) × List·Memᴰ d (W .w .ended) × Is z d). inl h) (λ (h : Under G oldLink W z). inr (under z h)) (I .logs .sound z m);
+          ⊎-elim (λ (h : (d : Done) × List·Memᴰ d (W .w .ended) × Is z d). inl h) (λ (h : Under (W .w) z). inr (under z h)) (I .logs .sound z m);
       over = λ d m q o i g k. rw (same q o i g k) (I .logs .over d m q o i g k);
     };
   }
@@ -60,5 +61,5 @@ module _ {G : Grid} {oldLink : ℕ → Link} {W : World} (I : Inv G oldLink W) (
       cell (old t k s) = old t k s
       cell (new t y v p₀ p₁ p₂) = new t y v p₀ p₁ p₂
 
-      under : (z : Entry) → Under G oldLink W z → Under G oldLink later z
+      under : (z : Entry) → Under (W .w) z → Under (later .w) z
       under z u = record { stage = u .stage; lane = u .lane; since = same (z .who) (z .op) (z .cell) (u .stage) (u .lane) ∙ u .since }

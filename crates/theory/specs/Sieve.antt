@@ -8,9 +8,9 @@ use Prim.Native.Nat.{ℕ}
 use Rattle.theory.specs.Array.{Op, read, asked, write, told, valueBy, writtenBy, value, written, answer}
 use Rattle.theory.specs.Order.{Done, Entry, deeds, Fits, Orderly, Is, valueIn, writtenIn}
 use Rattle.theory.specs.Machine.{Grid, Link}
-use Rattle.theory.specs.OneOrder.{Pending, OneOrder}
+use Rattle.theory.specs.OneOrder.{Under, Pending, OneOrder}
 use Rattle.theory.specs.World.{World}
-use Rattle.theory.specs.Inv.{Under, Inv}
+use Rattle.theory.specs.Inv.{Inv}
 
 module _ {G : Grid} {oldLink : ℕ → Link} {W : World} (I : Inv G oldLink W) where
   Fin : Entry → Type 0
@@ -63,7 +63,7 @@ module _ {G : Grid} {oldLink : ℕ → Link} {W : World} (I : Inv G oldLink W) w
   quiet-written asked c j y q = refl
   quiet-written (write v) c j y q = absurd q
 
-  drop-entry : (x : Entry) (es : List Entry) (es′ : List Entry) → Sieved es es′ → Under G oldLink W x → Quiet-op (x .op) → Sieved (x ∷ es) es′
+  drop-entry : (x : Entry) (es : List Entry) (es′ : List Entry) → Sieved es es′ → Under (W .w) x → Quiet-op (x .op) → Sieved (x ∷ es) es′
   unfolding value written Fin deeds
   drop-entry x es es′ S u s = record {
     orderly = S .orderly;
@@ -78,17 +78,17 @@ module _ {G : Grid} {oldLink : ℕ → Link} {W : World} (I : Inv G oldLink W) w
         (λ (h : List·Memᴰ z es). S .kept z h f) (List·Memᴰ·cases-cons m);
   }
 
-  sieve : (es : List Entry) → Orderly (G .f) es → ((z : Entry) → List·Memᴰ z es → Fin z ⊎ Under G oldLink W z) → (es′ : List Entry) × Sieved es es′
+  sieve : (es : List Entry) → Orderly (G .f) es → ((z : Entry) → List·Memᴰ z es → Fin z ⊎ Under (W .w) z) → (es′ : List Entry) × Sieved es es′
   sieve [] h s = ([], record { orderly = tt; sub = λ z m. m; same = λ j. refl; vals = λ j. refl; good = λ z m. elim m [ ]; kept = λ z m f. m })
   sieve (x ∷ es) h s = by (sieve es (h .1) (λ z m. s z (List·Memᴰ·tail m))) (s x (List·Memᴰ·head refl)) (x .op) refl
     where
-      by : (es′ : List Entry) × Sieved es es′ → Fin x ⊎ Under G oldLink W x → (o : Op) → x .op ≡ o → (es′ : List Entry) × Sieved (x ∷ es) es′
+      by : (es′ : List Entry) × Sieved es es′ → Fin x ⊎ Under (W .w) x → (o : Op) → x .op ≡ o → (es′ : List Entry) × Sieved (x ∷ es) es′
       by t (inl f) o k = (x ∷ t .0, keep-entry x es (t .0) (h .0) (t .1) (inl f))
       by t (inr u) read k = (t .0, drop-entry x es (t .0) (t .1) u (rw k tt))
       by t (inr u) asked k = (t .0, drop-entry x es (t .0) (t .1) u (rw k tt))
       by t (inr u) (write v) k = (
         x ∷ t .0,
-        keep-entry x es (t .0) (h .0) (t .1) (inr (record { stage = u .stage; lane = u .lane; since = u .since; value = v; writes = k })),
+        keep-entry x es (t .0) (h .0) (t .1) (inr (record { under = u; value = v; writes = k })),
       )
 
   pub sieved-order : OneOrder (G .f) (W .w)

@@ -2,7 +2,7 @@
 -- Assumes nothing.
 use mathlib.Core.Path.{_≡_, refl, sym, ap, _∙_, subst}
 use mathlib.Core.Logic.{_⊎_, inl, inr, ⊎-elim}
-use mathlib.Core.List.{List, _∷_, List·Memᴰ, List·Memᴰ·cases-cons}
+use mathlib.Core.List.{List, _∷_, _++_, List·Memᴰ, List·Memᴰ·cases-cons}
 use Prim.Native.Nat.{ℕ, _≤_}
 use native.Mathlib.Omega.{arith}
 use Rattle.theory.specs.Array.{Op, Ans}
@@ -16,9 +16,9 @@ use Rattle.theory.specs.Log.{turned, Pre, pre-keep, log-go, log-end}
 use Rattle.theory.specs.ClaimsKept.{Frame}
 use Rattle.theory.specs.Calm.{Own, complete-inv, quiet-frame, still-cell}
 
--- the invariant after the turn t, with some order
+-- the invariant after the turn t; the order so far stays, and what is new stands after it
 unfoldable pub Kept : Grid → (ℕ → Link) → World → ℕ → Op → ℕ → Turn → (ℕ → ℕ) → Type 0
-Kept G oldLink W q o i t used = (log : List Entry) × Inv G oldLink (record { w = stepped (W .w) q o i t; log = log; used = used })
+Kept G oldLink W q o i t used = (newer : List Entry) × Inv G oldLink (record { w = stepped (W .w) q o i t; log = newer ++ W .log; used = used })
 
 -- the invariant after q's step at a stage
 abbrev pub KeptAt : Grid → (ℕ → Link) → World → ℕ → Op → ℕ → Stage → Type 0

@@ -2,7 +2,7 @@
 -- Assumes nothing.
 use mathlib.Core.Path.{_≡_, refl, sym, _∙_}
 use mathlib.Core.Logic.{inl, _≢_}
-use mathlib.Core.List.{List, _∷_, List·Memᴰ·head, List·Memᴰ·tail}
+use mathlib.Core.List.{List, [], _∷_, List·Memᴰ·head, List·Memᴰ·tail}
 use Prim.Native.Nat.{ℕ, _<_}
 use native.Mathlib.Decide.{ℕ-discrete}
 use native.Mathlib.Omega.{arith}
@@ -58,7 +58,7 @@ module _ {G : Grid} {oldLink : ℕ → Link} {W : World} (I : Inv G oldLink W) (
 
       by : CellOk G oldLink W i → Kept G oldLink W q (write v) i (turnTo (setReading i v) (go Stage.checkLink)) (W .used)
       by (old t k s) = (
-        W .log,
+        [],
         Calm.complete-inv I q e M (W .used) (go Stage.checkLink) (W .log) O
             (Calm.quiet-frame I q e M (W .used) (go Stage.checkLink) (W .log) O
             (record { more = λ z m. m; less = λ z m. inl m; same = λ j. refl; link = λ j t. refl }))
@@ -85,7 +85,7 @@ module _ {G : Grid} {oldLink : ℕ → Link} {W : World} (I : Inv G oldLink W) (
               at-j (yes z) = rw z (old t k (λ r y h. (q, rw mine (sym here, refl, tt))))
               at-j (no z) = beside (W .log) (λ j ne. refl) (λ j ne. refl) j hj z
       by (new t w y p₀ p₁ p₂) = (
-        x ∷ W .log,
+        x ∷ [],
         Calm.complete-inv I q e M (W .used) (go Stage.checkLink) (x ∷ W .log) O
             (Calm.quiet-frame I q e M (W .used) (go Stage.checkLink) (x ∷ W .log) O
             (record { more = λ z m. List·Memᴰ·tail m; less = Steps.less-cons I q e x refl; same = same′; link = λ j t. refl }))

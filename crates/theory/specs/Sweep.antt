@@ -3,7 +3,7 @@
 use mathlib.Core.Path.{_≡_, refl, sym, ap, _∙_}
 use mathlib.Core.Logic.{_⊎_, inl, inr, ⊎-elim, _≢_}
 use mathlib.Core.Bool.{false}
-use mathlib.Core.List.{List, _∷_, List·Memᴰ, List·Memᴰ·head, List·Memᴰ·tail, List·Memᴰ·cases-cons}
+use mathlib.Core.List.{List, [], _∷_, _++_, List·Memᴰ, List·Memᴰ·head, List·Memᴰ·tail, List·Memᴰ·cases-cons}
 use Prim.Native.Nat.{ℕ, zero, suc, _≤_, _<_}
 use native.Mathlib.Decide.{ℕ-discrete}
 use native.Mathlib.Omega.{arith}
@@ -99,9 +99,9 @@ module _ {G : Grid} {oldLink : ℕ → Link} {W : World} (I : Inv G oldLink W) (
           ne (y .r) (y .below) (y .other) (I .apart (y .r) r (write (y .v)) (write v) i i (c .0) (b .0) (c .1) (b .1) (sym (y .since) ∙ h)))
           (S .less z m)
 
-  pub sweep : (k : ℕ) → (log : List Entry) × Swept k log
+  pub sweep : (k : ℕ) → (newer : List Entry) × Swept k (newer ++ W .log)
   sweep zero = (
-    W .log,
+    [],
     record {
       pre = Log.pre-keep I;
       more = λ z m. m;
@@ -120,8 +120,8 @@ module _ {G : Grid} {oldLink : ℕ → Link} {W : World} (I : Inv G oldLink W) (
       lower : (r : ℕ) → r < suc k → r ≢ k → r < k
       lower r h ne = omega arith
 
-      next : (log : List Entry) × Swept k log → ((v : ℕ) × Stored (W .w .lane k) i v) ⊎ ((v : ℕ) → Stored (W .w .lane k) i v → ⊥) → Dec (k ≡ x)
-          → (log : List Entry) × Swept (suc k) log
+      next : (newer : List Entry) × Swept k (newer ++ W .log) → ((v : ℕ) × Stored (W .w .lane k) i v) ⊎ ((v : ℕ) → Stored (W .w .lane k) i v → ⊥) → Dec (k ≡ x)
+          → (newer : List Entry) × Swept (suc k) (newer ++ W .log)
       next t d (yes h) = (
         t .0,
         record {
@@ -147,29 +147,29 @@ module _ {G : Grid} {oldLink : ℕ → Link} {W : World} (I : Inv G oldLink W) (
       next t (inl d) (no h) = (
         new-entry ∷ t .0,
         record {
-          pre = put k (t .0) (t .1) k (d .0) (d .1) (λ y hy ne z. let u : suc k ≤ k = rw z at hy in absurd (let w : ⊥ = omega arith in w));
+          pre = put k (t .0 ++ W .log) (t .1) k (d .0) (d .1) (λ y hy ne z. let u : suc k ≤ k = rw z at hy in absurd (let w : ⊥ = omega arith in w));
           more = λ z m. List·Memᴰ·tail (t .1 .more z m);
           less = less′;
           all = all′;
-          same = λ j ne. OrderLaws.written-away new-entry (t .0) j ne ∙ t .1 .same j ne;
-          vals = λ j ne. OrderLaws.value-away (G .f) new-entry (t .0) j ne ∙ t .1 .vals j ne;
+          same = λ j ne. OrderLaws.written-away new-entry (t .0 ++ W .log) j ne ∙ t .1 .same j ne;
+          vals = λ j ne. OrderLaws.value-away (G .f) new-entry (t .0 ++ W .log) j ne ∙ t .1 .vals j ne;
         },
       )
         where
           new-entry : Entry
           new-entry = Log.entry (W .w) k (write (d .0)) i done
 
-          less′ : (z : Entry) → List·Memᴰ z (new-entry ∷ t .0) → List·Memᴰ z (W .log) ⊎ Newer (suc k) z
+          less′ : (z : Entry) → List·Memᴰ z (new-entry ∷ t .0 ++ W .log) → List·Memᴰ z (W .log) ⊎ Newer (suc k) z
           less′ z m =
               ⊎-elim
               (λ (y : z ≡ new-entry). inr
               (record { r = k; v = d .0; stored = d .1; since = ap (λ (u : Entry). u .began) y; below = omega arith; other = h }))
-              (λ (y : List·Memᴰ z (t .0)). wider z (t .1 .less z y)) (List·Memᴰ·cases-cons m)
+              (λ (y : List·Memᴰ z (t .0 ++ W .log)). wider z (t .1 .less z y)) (List·Memᴰ·cases-cons m)
 
-          all′ : (r v : ℕ) → r < suc k → r ≢ x → Stored (W .w .lane r) i v → List·Memᴰ (Log.entry (W .w) r (write v) i done) (new-entry ∷ t .0)
+          all′ : (r v : ℕ) → r < suc k → r ≢ x → Stored (W .w .lane r) i v → List·Memᴰ (Log.entry (W .w) r (write v) i done) (new-entry ∷ t .0 ++ W .log)
           all′ r v hr ne s = by (ℕ-discrete r k)
             where
-              by : Dec (r ≡ k) → List·Memᴰ (Log.entry (W .w) r (write v) i done) (new-entry ∷ t .0)
+              by : Dec (r ≡ k) → List·Memᴰ (Log.entry (W .w) r (write v) i done) (new-entry ∷ t .0 ++ W .log)
               by (no y) = List·Memᴰ·tail (t .1 .all r v (lower r hr y) ne s)
               by (yes y) = let b = busy-of k (d .0) (d .1) in
                   let c = busy-of r v s in

@@ -3,7 +3,7 @@
 use mathlib.Core.Path.{_≡_, refl, sym, ap, _∙_, subst}
 use mathlib.Core.Logic.{_⊎_, inl, inr, ⊎-elim, _≢_}
 use mathlib.Core.Bool.{true, false}
-use mathlib.Core.List.{List, _∷_, List·Memᴰ, List·Memᴰ·head, List·Memᴰ·tail, List·Memᴰ·cases-cons}
+use mathlib.Core.List.{List, [], _∷_, _++_, List·Memᴰ, List·Memᴰ·head, List·Memᴰ·tail, List·Memᴰ·cases-cons}
 use Prim.Native.Nat.{ℕ, _<_}
 use native.Mathlib.Decide.{ℕ-discrete}
 use native.Mathlib.Omega.{arith}
@@ -54,21 +54,24 @@ module _ {G : Grid} {oldLink : ℕ → Link} {W : World} (I : Inv G oldLink W) (
 
   -- the swap itself: x is the process whose store came last
   module _ (hl : M .link i ≡ oldLink i) (t : writtenIn (W .log) i ≡ false) (x : ℕ) (sx : Stored (W .w .lane x) i (M .reading i)) where
-    swept : (log : List Entry) × Swept I i x t (G .p) log
+    swept : (newer : List Entry) × Swept I i x t (G .p) (newer ++ W .log)
     swept = Sweep.sweep I i x t (G .p)
 
     last : Entry
     last = Log.entry (W .w) x (write (M .reading i)) i done
 
+    abbrev added : List Entry
+    added = last ∷ swept .0
+
     log′ : List Entry
-    log′ = last ∷ swept .0
+    log′ = added ++ W .log
 
     W″ : World
     W″ = Log.turned W q o i M′ (W .used) (end done) log′
 
     pre′ : Pre G oldLink W log′
     unfolding log′ last
-    pre′ = Sweep.put I i x t (G .p) (swept .0) (swept .1) x (M .reading i) sx (λ y hy ne. ne)
+    pre′ = Sweep.put I i x t (G .p) (swept .0 ++ W .log) (swept .1) x (M .reading i) sx (λ y hy ne. ne)
 
     more′ : (z : Entry) → List·Memᴰ z (W .log) → List·Memᴰ z log′
     unfolding log′
@@ -78,7 +81,7 @@ module _ {G : Grid} {oldLink : ℕ → Link} {W : World} (I : Inv G oldLink W) (
     less′ : (z : Entry) → List·Memᴰ z log′ → List·Memᴰ z (W .log) ⊎ ((r : ℕ) × (v : ℕ) × (z .began ≡ W .w .since r) × Stored (W .w .lane r) i v)
     unfolding log′ last
     less′ z m = ⊎-elim (λ (h : z ≡ last). inr (x, M .reading i, ap (λ (u : Entry). u .began) h, sx))
-        (λ (h : List·Memᴰ z (swept .0)). ⊎-elim (λ (y : List·Memᴰ z (W .log)). inl y)
+        (λ (h : List·Memᴰ z (swept .0 ++ W .log)). ⊎-elim (λ (y : List·Memᴰ z (W .log)). inl y)
         (λ (y : Newer I i x t (G .p) z). inr (y .r, y .v, y .since, y .stored)) (swept .1 .less z h))
         (List·Memᴰ·cases-cons m)
 
@@ -99,19 +102,19 @@ module _ {G : Grid} {oldLink : ℕ → Link} {W : World} (I : Inv G oldLink W) (
 
     written′ : writtenIn log′ i ≡ true
     unfolding log′ last
-    written′ = OrderLaws.written-here last (swept .0) (M .reading i) i refl refl
+    written′ = OrderLaws.written-here last (swept .0 ++ W .log) (M .reading i) i refl refl
 
     value′ : valueIn (G .f) log′ i ≡ M .reading i
     unfolding log′ last
-    value′ = OrderLaws.value-here (G .f) last (swept .0) (M .reading i) i refl refl
+    value′ = OrderLaws.value-here (G .f) last (swept .0 ++ W .log) (M .reading i) i refl refl
 
     same′ : (j : ℕ) → j ≢ i → writtenIn log′ j ≡ writtenIn (W .log) j
     unfolding log′ last
-    same′ j ne = OrderLaws.written-away last (swept .0) j ne ∙ swept .1 .same j ne
+    same′ j ne = OrderLaws.written-away last (swept .0 ++ W .log) j ne ∙ swept .1 .same j ne
 
     vals′ : (j : ℕ) → j ≢ i → valueIn (G .f) log′ j ≡ valueIn (G .f) (W .log) j
     unfolding log′ last
-    vals′ j ne = OrderLaws.value-away (G .f) last (swept .0) j ne ∙ swept .1 .vals j ne
+    vals′ j ne = OrderLaws.value-away (G .f) last (swept .0 ++ W .log) j ne ∙ swept .1 .vals j ne
 
     apart-i : (j : ℕ) → Swapped G oldLink W j → j ≢ i
     apart-i j h z = h (subst (λ (y : ℕ). M .link y ≡ oldLink y) (sym z) hl)
@@ -195,7 +198,7 @@ module _ {G : Grid} {oldLink : ℕ → Link} {W : World} (I : Inv G oldLink W) (
         (Log.log-end q e M′ (W .used) pre′ done (W .w .now) (all′ q u (rw e (refl, refl, tt))))
 
   write-swaps : KeptAt G oldLink W q o i (marking (Marking.swap S n))
-  unfolding Kept W″ M′
+  unfolding Kept W″ M′ log′
   write-swaps = by (sameLink (M .link i) (S .at))
     where
       by : (d : Dec (M .link i ≡ S .at))
@@ -203,8 +206,8 @@ module _ {G : Grid} {oldLink : ℕ → Link} {W : World} (I : Inv G oldLink W) (
       by (yes k) = let h = Swap.unswapped I q e k in
           let z = not-yet k (I .cells i (b .cell)) in
           let y = z .1 q (b .at .0 .v) (rw e me) in
-          (log′ h (z .0) (y .0) (y .1), swapped h (z .0) (y .0) (y .1))
-      by (no k) = (W .log, Swap.lose I q e k)
+          (added h (z .0) (y .0) (y .1), swapped h (z .0) (y .0) (y .1))
+      by (no k) = ([], Swap.lose I q e k)
 
 pub swaps : {G : Grid} {oldLink : ℕ → Link} {W : World} (I : Inv G oldLink W) (q : ℕ) (o : Op) (i : ℕ) (S : Seen) (n : ℕ)
     → W .w .lane q ≡ busy o i (marking (Marking.swap S n)) → KeptAt G oldLink W q o i (marking (Marking.swap S n))
