@@ -10,7 +10,7 @@ use lib.ListN.{length}
 use Rattle.logic.specs.Pick.{pick}
 use Rattle.lists.specs.Lists.{gathered}
 use Rattle.byte_lists.specs.Bytes.{splice}
-use Rattle.refusals.specs.Orders.{_gives_, orders}
+use Rattle.refusals.specs.Orders.{Rule, _gives_, orders}
 use Rattle.planners_text.specs.declared.Wrote.the-variants as Wrote
 use Rattle.planners_text.specs.PlannersText.{header, lineOf, textOf, Page, page, writeOf}
 use Rattle.planners_text.specs.Sheet.{Row, row, writtenBelow}
@@ -28,11 +28,11 @@ abbrev pub arrayText : (ℕ → ℕ) → List Entry → ℕ → List ℕ
 arrayText f order n = header ++ gathered n (λ (i : ℕ). pick (writtenIn order i) (lineOf i (valueIn f order i)) [])
 
 -- A text written in a run, by the book: 10 with an operation under way, then 17 if it is longer than the buffer. 9 and 8 never occur.
+abbrev pub refusalsIn : Terms → Book → List ℕ → List ℕ → List Rule
+refusalsIn z b text out = not (restsIn z b) gives Refusal.AtWork ∷ ltb (length out) (length text) gives Refusal.NoRoom ∷ []
+
 abbrev pub writeIn : Terms → Book → List ℕ → List ℕ → Page
-writeIn z b text out =
-    orders (λ r. page (Wrote.Refused r) out)
-    (not (restsIn z b) gives Refusal.AtWork ∷ ltb (length out) (length text) gives Refusal.NoRoom ∷ [])
-    (page (Wrote.Bytes (length text)) (splice out 0 text))
+writeIn z b text out = orders (λ r. page (Wrote.Refused r) out) (refusalsIn z b text out) (page (Wrote.Bytes (length text)) (splice out 0 text))
 
 -- One order, as demand 2 has it, of which at rest the text and its rows tell; and what writing comes to, into any buffer.
 pub record OnPaper (z : Terms) (r : Run State) : Type 0 where
