@@ -79,12 +79,17 @@ module _ (z : Terms) (mem : Memory) (ok : Accepted grid z mem) (calls : List (Ca
   values h = hourIn (filled z) order h
 
   -- What 9 (state), 10 and 8 look at.
+  abbrev Scanned : Run State → Type 0
+  Scanned r = scanOf (r .world .state) ≡ pick (restsIn z (r .book)) Scan.AtRest Scan.AtWork
+
+  abbrev Lent : Run State → Type 0
+  Lent r = lengthsFit (r .world .state .terms) (r .world .memory) ≡ true
+
   pub scan-told : scanOf state ≡ pick (restsIn z (after z mem ok calls .book)) Scan.AtRest Scan.AtWork
-  scan-told =
-      after-any-calls z (λ (r : Run State). scanOf (r .world .state) ≡ pick (restsIn z (r .book)) Scan.AtRest Scan.AtWork) (λ r H. Hours.scan-told H) mem ok calls
+  scan-told = after-any-calls z Scanned (λ r H. Hours.scan-told H) mem ok calls
 
   pub lengths-told : lengthsFit (state .terms) memory ≡ true
-  lengths-told = after-any-calls z (λ (r : Run State). lengthsFit (r .world .state .terms) (r .world .memory) ≡ true) (λ r H. lengths-fit (H .lengths)) mem ok calls
+  lengths-told = after-any-calls z Lent (λ r H. lengths-fit (H .lengths)) mem ok calls
 
   -- 10 if an operation is under way, 5 if the hour is not there, 18 if none of its cells has a write; 9 and 8 do not occur.
   pub summary-exactly : (h : ℕ) → summaryOf state h memory ≡ summaryIn z (after z mem ok calls .book) h (values h)
