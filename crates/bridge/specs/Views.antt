@@ -30,7 +30,7 @@ use Rattle.bridge.specs.Keep.{good-pass, starts, begunLane, good-begin}
 use Rattle.bridge.specs.KeepStep.{steppedLane, steppedState, steppedMemory, own, note-step, good-step}
 use Rattle.bridge.specs.Refused.{stays, returned}
 
-works : (z : Terms) (o : Theory.Op) (i : ℕ) (op : Op) → Does z o i op → idle op ≡ false
+pub works : (z : Terms) (o : Theory.Op) (i : ℕ) (op : Op) → Does z o i op → idle op ≡ false
 works z Theory.read i (Op.Read j c) h = refl
 works z Theory.read i (Op.Reading j) h = refl
 works z Theory.asked i (Op.Asked j c) h = refl
@@ -45,7 +45,7 @@ module _ {s : State} {mem : Memory} {b : Book} (H : Good s mem b) where
   abbrev callStep : ℕ → Call Ask (s .terms)
   callStep q = step q
 
-  rests : (q : ℕ) → b .doing q ≡ nothing → idle (laneOf s q .op) ≡ true
+  pub rests : (q : ℕ) → b .doing q ≡ nothing → idle (laneOf s q .op) ≡ true
   rests q e = let h : LaneAgrees (s .terms) (laneOf s q) nothing = rw e at (H .agrees q) in ap idle (h .0)
 
   -- ---- begin

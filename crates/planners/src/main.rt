@@ -1,6 +1,4 @@
 // The planners' program: one schedule file from standard input, the text of the grid that it leaves to standard output.
-mod sheet;
-
 use byte_lists::Put;
 use libc::STDIN_FILENO;
 use libc::STDOUT_FILENO;

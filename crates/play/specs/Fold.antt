@@ -3,7 +3,7 @@
 use Prim.Native.Nat.{ℕ, zero, suc}
 use mathlib.Core.Path.{_≡_, refl, sym, ap, _∙_}
 use mathlib.Core.Bool.{Bool, true, false}
-use mathlib.Core.List.{List, [], _∷_, _++_}
+use mathlib.Core.List.{List, [], _∷_}
 use lib.Dec.{eqb}
 use Rattle.numbers.specs.declared.Terms.{Terms}
 use Rattle.logic.specs.Pick.{pick}
@@ -14,11 +14,7 @@ use Rattle.acts.specs.declared.Ask.{Ask}
 use Rattle.acts.specs.Worlds.{grid, Call, begin, step, World, answerTo, worldAfter}
 use Rattle.acts.specs.WorldLaws.{after-both}
 use Rattle.acts.specs.Worlds as Worlds
-use Rattle.play.specs.Play.{askOf, callOf, callAt, after}
-
-unfoldable pub calls : (z : Terms) → List ℕ → ℕ → List (Call Ask z)
-calls z bytes zero = []
-calls z bytes (suc k) = calls z bytes k ++ (callOf z (recordAt bytes k) ∷ [])
+use Rattle.play.specs.Play.{askOf, callOf, callAt, calls, after}
 
 -- A record begins or steps, whatever terms the grid was opened with: only memories of other lengths look at them.
 module _ (y z : Terms) (w : World State) (r : Record) where

@@ -1,7 +1,7 @@
 -- The schedule program's output, from the file's bytes: "Schedule file and its program" of document 01.
 -- Assumes nothing.
 use Prim.Native.Nat.{ℕ, zero, suc, _+_, _*_, _%_}
-use mathlib.Core.List.{List, [], _++_}
+use mathlib.Core.List.{List, [], _∷_, _++_}
 use lib.Dec.{leb, eqb}
 use lib.ListN.{length, replicate}
 use Rattle.numbers.specs.Numbers.{mostProcesses, directoryWords, poolWords}
@@ -44,6 +44,11 @@ askOf r = pick (eqb (r .kind) 1) (Ask.Read (cellOf r)) (pick (eqb (r .kind) 2) (
 -- A record is a call of its process.
 abbrev pub callOf : (z : Terms) → Record → Call Ask z
 callOf z r = pick (eqb (r .kind) 0) (step (r .process)) (begin (r .process) (askOf r))
+
+-- The first k records as calls.
+unfoldable pub calls : (z : Terms) → List ℕ → ℕ → List (Call Ask z)
+calls z bytes zero = []
+calls z bytes (suc k) = calls z bytes k ++ (callOf z (recordAt bytes k) ∷ [])
 
 -- Record k as a call on the grid that the world was opened with; the world after the first k records, and their lines.
 abbrev pub callAt : List ℕ → (w : World State) → ℕ → Call Ask (w .state .terms)

@@ -1,27 +1,39 @@
 -- After any calls, with no operation under way: what is found of each cell is what the array of demand 2 holds in the end, and
--- the hour summary is over exactly the cells that the array has a write of.
+-- the hour summary is over exactly the cells that the array has a write of. With one under way the summary is refused with 10.
 -- Assumes nothing.
 use Prim.Native.Nat.{ℕ, _*_, _/_, _≤_, _<_}
 use mathlib.Core.Path.{_≡_}
-use mathlib.Core.Bool.{Bool, true, false}
-use mathlib.Core.Logic.{_⊎_, _≢_}
+use mathlib.Core.Bool.{Bool, true, false, not}
+use mathlib.Core.Logic.{_⊎_}
 use mathlib.Core.List.{List, [], _∷_, List·Memᴰ}
+use lib.Dec.{ltb, eqb}
+use lib.ListN.{length}
 use Rattle.logic.specs.Pick.{pick}
+use Rattle.logic.specs.Below.{below}
 use Rattle.numbers.specs.Numbers.{fillOf}
 use Rattle.numbers.specs.Cells.{cellAt}
+use Rattle.refusals.specs.Orders.{_gives_, orders}
 use Rattle.quiet.specs.declared.Quarter.the-variants as Quarter
-use Rattle.quiet.specs.declared.Scan.the-variants as Scan
-use Rattle.quiet.specs.Quiet.{scanOf, lookedAt, readingAt}
+use Rattle.quiet.specs.Quiet.{lookedAt, readingAt}
+use Rattle.summary.specs.declared.Summary.{Summary}
 use Rattle.summary.specs.declared.Summary.the-variants as Summary
 use Rattle.summary.specs.Summary.{hourOf, fourFrom, summaryOf}
 use Rattle.theory.specs.Order.{Done, Entry, Is, valueIn, writtenIn}
 use Rattle.demands.specs.Types.{Refusal, Cell, Terms, State, Found}
-use Rattle.demands.specs.Book.{nothing, Run}
+use Rattle.demands.specs.Book.{nothing, Book, Run}
 use Rattle.demands.specs.Demand2.{OneOrder}
+use Rattle.demands.specs.Demanded.{isBusy}
 
 -- The book shows no process below p at work.
 abbrev pub Resting : Terms → Run State → Type 0
 Resting z r = (q : ℕ) → q < z .p → r .book .doing q ≡ nothing
+
+-- The same as a test; and that some process below p is at work.
+abbrev pub restsIn : Terms → Book → Bool
+restsIn z b = below (z .p) (λ (q : ℕ). not (isBusy (b .doing q)))
+
+abbrev pub UnderWay : Terms → Run State → Type 0
+UnderWay z r = (q : ℕ) × (q < z .p) × (isBusy (r .book .doing q) ≡ true)
 
 -- A check that has ended tells whether the cell is written.
 abbrev pub Tells : Found → Bool → Type 0
@@ -47,23 +59,31 @@ valuesOf f order (i ∷ is) = pick (writtenIn order i) (valueIn f order i ∷ va
 abbrev pub hourIn : (ℕ → ℕ) → List Entry → ℕ → List ℕ
 hourIn f order h = valuesOf f order (fourFrom (4 * h))
 
+-- The summary of hour h in a run, from the book and the array's values of that hour: 10, 5, 18. 9 and 8 never occur.
+abbrev pub summaryIn : Terms → Book → ℕ → List ℕ → Summary
+summaryIn z b h values =
+    orders Summary.Refused
+    (not (restsIn z b) gives Refusal.AtWork ∷ not (ltb h (z .m / 4)) gives Refusal.NoSuchCell ∷ eqb (length values) 0 gives Refusal.NothingWritten ∷ [])
+    (Summary.Of (hourOf values))
+
 -- A refusal of the summary of hour h: 5 for an hour that is not there, 18 for one of which no value is written.
 abbrev pub FiveOrEighteen : Terms → ℕ → List ℕ → Refusal → Type 0
 FiveOrEighteen z h values r = ((z .m / 4 ≤ h) × (r ≡ Refusal.NoSuchCell)) ⊎ ((h < z .m / 4) × (values ≡ []) × (r ≡ Refusal.NothingWritten))
 
--- What a run at rest shows of a grid opened with terms z. There is one order, as demand 2 has it, and all in it have finished.
--- `written`, `reading`: each cell is found written exactly if the array has a write of it in that order, and its reading is the
--- array's value. `hours`: so the summary is of the array's values of the written cells. The refusals left are `nothing`: 18, if none
--- of the four is written; and `no-hour`: 5, an hour that is not there.
+-- What a run at rest shows of a grid opened with terms z, against an order of demand 2. All in it have finished. Each cell is
+-- found written exactly if the array has a write of it in that order, and its reading is the array's value.
+pub record AtRest (z : Terms) (r : Run State) (order : List Entry) : Type 0 where
+  pub finished : (e : Entry) → List·Memᴰ e order → (d : Done) × List·Memᴰ d (r .book .ended) × Is e d
+  pub written : (i : ℕ) → i < z .m → Tells (looked r (cellAt z i)) (writtenIn order i)
+  pub reading : (i : ℕ) → i < z .m
+      → readingAt (r .world .state) (cellAt z i) (r .world .memory) ≡ Quarter.Read (valueIn (filled z) order i) (writtenIn order i)
+
+-- What any run shows. There is one order, as demand 2 has it; the summary answers by the book and by the array that it gives.
 pub record Shown (z : Terms) (r : Run State) : Type 0 where
   pub one-order : OneOrder (filled z) (r .book)
-  pub finished : (e : Entry) → List·Memᴰ e (one-order .order) → (d : Done) × List·Memᴰ d (r .book .ended) × Is e d
-  pub written : (i : ℕ) → i < z .m → Tells (looked r (cellAt z i)) (writtenIn (one-order .order) i)
-  pub reading : (i : ℕ) → i < z .m
-      → readingAt (r .world .state) (cellAt z i) (r .world .memory) ≡ Quarter.Read (valueIn (filled z) (one-order .order) i) (writtenIn (one-order .order) i)
-  pub scan : scanOf (r .world .state) ≡ Scan.AtRest
-  pub hours : (h : ℕ) → h < z .m / 4 → hourIn (filled z) (one-order .order) h ≢ []
-      → summaryOf (r .world .state) h (r .world .memory) ≡ Summary.Of (hourOf (hourIn (filled z) (one-order .order) h))
-  pub nothing : (h : ℕ) → h < z .m / 4 → hourIn (filled z) (one-order .order) h ≡ []
-      → summaryOf (r .world .state) h (r .world .memory) ≡ Summary.Refused Refusal.NothingWritten
-  pub no-hour : (h : ℕ) → z .m / 4 ≤ h → summaryOf (r .world .state) h (r .world .memory) ≡ Summary.Refused Refusal.NoSuchCell
+  pub at-rest : Resting z r → AtRest z r (one-order .order)
+  pub summary : (h : ℕ) → summaryOf (r .world .state) h (r .world .memory) ≡ summaryIn z (r .book) h (hourIn (filled z) (one-order .order) h)
+
+-- With an operation under way the summary of every hour is refused with 10.
+abbrev pub TenUnderWay : Terms → Run State → Type 0
+TenUnderWay z r = (h : ℕ) → UnderWay z r → summaryOf (r .world .state) h (r .world .memory) ≡ Summary.Refused Refusal.AtWork

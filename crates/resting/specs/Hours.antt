@@ -1,70 +1,86 @@
--- In a good state with no operation under way: the scan finds it at rest, and the hour summary is of the array's values of the written cells.
+-- In a good state: the scan finds it at rest exactly if the book does, and the hour summary is of the array's values of the written cells.
 -- Assumes nothing.
 use Prim.Native.Nat.{ℕ, _+_, _*_, _/_, _≤_, _<_}
-use mathlib.Core.Path.{_≡_, refl, ap, _∙_}
-use mathlib.Core.Bool.{true}
-use mathlib.Core.Logic.{_≢_}
-use mathlib.Core.List.{List, [], _∷_}
+use mathlib.Core.Path.{_≡_, refl, sym, ap, _∙_}
+use mathlib.Core.Bool.{Bool, true, false, not}
+use mathlib.Core.List.{List}
+use native.Mathlib.Decide.{decLt}
 use native.Mathlib.Omega.{arith}
-use borrow.Author.Tests.{lt-ltb, le-ltb, ne-eqb}
-use lib.Dec.{eqb}
-use lib.ListN.{length}
-use Rattle.logic.specs.BelowLaws.{below-all}
+use borrow.Author.Tests.{lt-ltb, le-ltb}
+use Rattle.logic.specs.Truth.{both-ways}
+use Rattle.logic.specs.BelowLaws.{below-at, below-all}
 use Rattle.logic.specs.Pick.{pick}
 use Rattle.lanes.specs.Ranges.{laneOf, idle}
 use Rattle.acts.specs.Lent.{lengths-fit}
 use Rattle.quiet.specs.declared.Scan.the-variants as Scan
 use Rattle.quiet.specs.Quiet.{atRest, scanOf}
-use Rattle.summary.specs.declared.Summary.{Summary}
 use Rattle.summary.specs.declared.Summary.the-variants as Summary
-use Rattle.summary.specs.Summary.{hourOf, summaryOf}
-use Rattle.demands.specs.Types.{Refusal, State, Memory}
-use Rattle.demands.specs.Book.{nothing, Book}
-use Rattle.demands.specs.Agrees.{LaneAgrees}
-use Rattle.bridge.specs.Good.{Good, state-fits}
-use Rattle.resting.specs.AtRest.{filled, hourIn}
-use Rattle.resting.specs.Cells.{nobody, order, reading-shown}
+use Rattle.summary.specs.Summary.{summaryOf}
+use Rattle.demands.specs.Types.{Refusal, Terms, State, Memory}
+use Rattle.demands.specs.Book.{Doing, nothing, busy, Book, Run}
+use Rattle.demands.specs.Demanded.{isBusy}
+use Rattle.bridge.specs.Good.{Good, does, state-fits}
+use Rattle.bridge.specs.Views.{works, rests}
+use Rattle.resting.specs.AtRest.{Resting, restsIn, filled, hourIn, summaryIn}
+use Rattle.resting.specs.Cells.{order, reading-shown}
 
-module _ {s : State} {mem : Memory} {b : Book} (H : Good s mem b) (rest : (q : ℕ) → q < s .terms .p → b .doing q ≡ nothing) where
-  idle-at : (q : ℕ) → idle (laneOf s q .op) ≡ true
-  idle-at q = let h : LaneAgrees (s .terms) (laneOf s q) nothing = rw (nobody H rest q) at (H .agrees q) in ap idle (h .0)
+-- The test and the book.
+pub resting-rests : (z : Terms) (r : Run State) → Resting z r → restsIn z (r .book) ≡ true
+resting-rests z r rest = below-all (z .p) (λ (q : ℕ). not (isBusy (r .book .doing q))) (λ q h. ap (λ (d : Doing). not (isBusy d)) (rest q h))
 
-  at-rest : atRest s ≡ true
-  at-rest = below-all (s .terms .p) (λ (q : ℕ). idle (laneOf s q .op)) (λ q h. idle-at q)
+pub rests-resting : (z : Terms) (r : Run State) → restsIn z (r .book) ≡ true → Resting z r
+rests-resting z r h q hq = by (r .book .doing q) (below-at (z .p) q (λ (q : ℕ). not (isBusy (r .book .doing q))) hq h)
+  where
+    by : (d : Doing) → not (isBusy d) ≡ true → d ≡ nothing
+    by nothing e = refl
+    by (busy began o i taken) e = absurd (let y : _≡_ {A = ℕ} 0 1 = cc in omega arith)
 
-  pub scan-shown : scanOf s ≡ Scan.AtRest
-  scan-shown = rw (state-fits H, at-rest)
-
-  abbrev values : ℕ → List ℕ
-  values h = hourIn (filled (s .terms)) (order H rest) h
-
-  -- the order of refusals from 18 on
-  abbrev from-18 : List ℕ → Summary
-  from-18 vs = pick (eqb (length vs) 0) (Summary.Refused Refusal.NothingWritten) (Summary.Of (hourOf vs))
-
-  hour-shown : (h : ℕ) → h < s .terms .m / 4 → summaryOf s h mem ≡ from-18 (values h)
-  unfolding summaryOf
-  hour-shown h hh =
-      rw (
-        scan-shown,
-        lengths-fit (H .lengths),
-        lt-ltb h (s .terms .m / 4) hh,
-        reading-shown H rest (4 * h) (omega arith),
-        reading-shown H rest (4 * h + 1) (omega arith),
-        reading-shown H rest (4 * h + 2) (omega arith),
-        reading-shown H rest (4 * h + 3) (omega arith),
-      )
-
-  pub hours-shown : (h : ℕ) → h < s .terms .m / 4 → values h ≢ [] → summaryOf s h mem ≡ Summary.Of (hourOf (values h))
-  hours-shown h hh some = hour-shown h hh ∙ by (values h) some
+module _ {s : State} {mem : Memory} {b : Book} (H : Good s mem b) where
+  idle-told : (q : ℕ) → idle (laneOf s q .op) ≡ not (isBusy (b .doing q))
+  idle-told q = by (b .doing q) refl
     where
-      by : (vs : List ℕ) → vs ≢ [] → from-18 vs ≡ Summary.Of (hourOf vs)
-      by [] n = absurd (n refl)
-      by (v ∷ vs) n = rw (ne-eqb (length (v ∷ vs)) 0 (λ x. let y : ⊥ = omega arith in y))
+      by : (d : Doing) → b .doing q ≡ d → idle (laneOf s q .op) ≡ not (isBusy d)
+      by nothing e = rests H q e
+      by (busy began o i taken) e = works (s .terms) o i (laneOf s q .op) (does H q e .0)
 
-  pub nothing-shown : (h : ℕ) → h < s .terms .m / 4 → values h ≡ [] → summaryOf s h mem ≡ Summary.Refused Refusal.NothingWritten
-  nothing-shown h hh none = hour-shown h hh ∙ ap from-18 none
+  rest-told : atRest s ≡ restsIn (s .terms) b
+  rest-told =
+      let p = s .terms .p in
+      let f : ℕ → Bool = λ q. idle (laneOf s q .op) in
+      let g : ℕ → Bool = λ q. not (isBusy (b .doing q)) in
+      both-ways (atRest s) (restsIn (s .terms) b)
+      (λ x. below-all p g (λ q h. sym (idle-told q) ∙ below-at p q f h x))
+      (λ x. below-all p f (λ q h. idle-told q ∙ below-at p q g h x))
 
-  pub no-hour-shown : (h : ℕ) → s .terms .m / 4 ≤ h → summaryOf s h mem ≡ Summary.Refused Refusal.NoSuchCell
+  pub scan-told : scanOf s ≡ pick (restsIn (s .terms) b) Scan.AtRest Scan.AtWork
+  scan-told = rw (state-fits H, rest-told)
+
+  -- ---- with an operation under way
+
+  pub summary-busy : restsIn (s .terms) b ≡ false → (h : ℕ) → summaryOf s h mem ≡ Summary.Refused Refusal.AtWork
   unfolding summaryOf
-  no-hour-shown h hh = rw (scan-shown, lengths-fit (H .lengths), le-ltb h (s .terms .m / 4) hh)
+  summary-busy e h = rw (scan-told, e, lengths-fit (H .lengths))
+
+  -- ---- at rest
+
+  module _ (rest : (q : ℕ) → q < s .terms .p → b .doing q ≡ nothing) (e : restsIn (s .terms) b ≡ true) where
+    abbrev values : ℕ → List ℕ
+    values h = hourIn (filled (s .terms)) (order H rest) h
+
+    pub summary-resting : (h : ℕ) → summaryOf s h mem ≡ summaryIn (s .terms) b h (values h)
+    unfolding summaryOf
+    summary-resting h = by (decLt h (s .terms .m / 4))
+      where
+        by : Dec (h < s .terms .m / 4) → summaryOf s h mem ≡ summaryIn (s .terms) b h (values h)
+        by (no k) = let hh : s .terms .m / 4 ≤ h = omega arith in rw (scan-told, e, lengths-fit (H .lengths), le-ltb h (s .terms .m / 4) hh)
+        by (yes k) =
+            rw (
+              scan-told,
+              e,
+              lengths-fit (H .lengths),
+              lt-ltb h (s .terms .m / 4) k,
+              reading-shown H rest (4 * h) (omega arith),
+              reading-shown H rest (4 * h + 1) (omega arith),
+              reading-shown H rest (4 * h + 2) (omega arith),
+              reading-shown H rest (4 * h + 3) (omega arith),
+            )

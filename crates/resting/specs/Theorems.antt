@@ -1,78 +1,132 @@
--- The theorems, for all terms, every memory that open accepts, and all calls after which no operation is under way.
+-- The theorems, for all terms, every memory that open accepts, and all calls.
 -- Assumes nothing.
 use Prim.Native.Nat.{ℕ, _/_, _≤_, _<_}
 use mathlib.Core.Path.{_≡_, refl, ap, _∙_, subst}
+use mathlib.Core.Bool.{Bool, true, false, not}
 use mathlib.Core.Logic.{inl, inr, _≢_}
 use mathlib.Core.List.{List, [], _∷_, List·Memᴰ, List·Memᴰ·head, List·Memᴰ·not-nil}
 use native.Mathlib.Decide.{decLt}
 use native.Mathlib.Omega.{arith}
+use borrow.Author.Tests.{lt-ltb, le-ltb, ne-eqb}
+use lib.Dec.{eqb}
+use lib.ListN.{length}
+use Rattle.logic.specs.Pick.{pick}
+use Rattle.logic.specs.BelowLaws.{below-fails}
 use Rattle.numbers.specs.Cells.{cellAt}
+use Rattle.acts.specs.Calls.{lengthsFit}
+use Rattle.acts.specs.Lent.{lengths-fit}
 use Rattle.acts.specs.Worlds.{grid, Call, Accepted, openedWorld}
 use Rattle.quiet.specs.declared.Quarter.the-variants as Quarter
 use Rattle.quiet.specs.declared.Scan.the-variants as Scan
 use Rattle.quiet.specs.Quiet.{scanOf, readingAt}
+use Rattle.summary.specs.declared.Summary.{Summary}
 use Rattle.summary.specs.declared.Summary.the-variants as Summary
 use Rattle.summary.specs.Summary.{hourOf, summaryOf}
 use Rattle.theory.specs.Array.{written}
 use Rattle.theory.specs.Order.{Done, Entry, Is, deeds, valueIn, writtenIn}
 use Rattle.demands.specs.Types.{Refusal, Terms, State, Memory, Ask}
 use Rattle.demands.specs.Book.{Run, run}
+use Rattle.demands.specs.Demanded.{isBusy}
 use Rattle.bridge.specs.Views.{GoodRun}
 use Rattle.bridge.specs.Runs.{after-any-calls}
+use Rattle.bridge.specs.Proved as Proved
 use Rattle.bridge.specs.Theorems.{after}
-use Rattle.resting.specs.AtRest.{Resting, Tells, looked, filled, hourIn, FiveOrEighteen, Shown}
+use Rattle.resting.specs.AtRest.{Resting, restsIn, UnderWay, Tells, looked, filled, hourIn, summaryIn, FiveOrEighteen, Shown, TenUnderWay}
 use Rattle.resting.specs.Cells as Cells
 use Rattle.resting.specs.Hours as Hours
 
-good-shows : (r : Run State) → GoodRun r → Resting (r .world .state .terms) r → Shown (r .world .state .terms) r
-good-shows r H rest = record {
-  one-order = Cells.the-order H rest;
-  finished = Cells.all-finished H rest;
-  written = Cells.written-shown H rest;
-  reading = Cells.reading-shown H rest;
-  scan = Hours.scan-shown H rest;
-  hours = Hours.hours-shown H rest;
-  nothing = Hours.nothing-shown H rest;
-  no-hour = Hours.no-hour-shown H rest;
-}
+good-shows : (r : Run State) → GoodRun r → Shown (r .world .state .terms) r
+good-shows r H = by (restsIn z (r .book)) refl
+  where
+    z : Terms
+    z = r .world .state .terms
+
+    by : (b : Bool) → restsIn z (r .book) ≡ b → Shown z r
+    by true e =
+        let rest = Hours.rests-resting z r e in
+        record {
+          one-order = Cells.the-order H rest;
+          at-rest = λ x. record {
+            finished = Cells.all-finished H rest;
+            written = Cells.written-shown H rest;
+            reading = Cells.reading-shown H rest;
+          };
+          summary = Hours.summary-resting H rest e;
+        }
+    by false e = record {
+      one-order = Proved.one-order H;
+      at-rest = λ rest. absurd (let x = Hours.resting-rests z r rest in let y : _≡_ {A = ℕ} 0 1 = cc in omega arith);
+      summary = λ h. Hours.summary-busy H e h ∙ rw e;
+    }
+
+-- An operation under way is one that the test sees.
+pub under-way : (z : Terms) (r : Run State) → UnderWay z r → restsIn z (r .book) ≡ false
+under-way z r u = below-fails (z .p) (u .0) (λ (q : ℕ). not (isBusy (r .book .doing q))) (u .1) (ap not (u .2))
 
 module _ (z : Terms) (mem : Memory) (ok : Accepted grid z mem) (calls : List (Call Ask z)) where
   -- THE THEOREM
-  pub shown-at-rest : Resting z (after z mem ok calls) → Shown z (after z mem ok calls)
-  shown-at-rest = after-any-calls z (λ r. Resting z r → Shown z r)
-      (λ r H. subst (λ (z : Terms). Resting z r → Shown z r) (H .terms) (good-shows r (H .good))) mem ok calls
+  pub shown : Shown z (after z mem ok calls)
+  shown = after-any-calls z (Shown z) (λ r H. subst (λ (z : Terms). Shown z r) (H .terms) (good-shows r (H .good))) mem ok calls
+
+  abbrev pub state : State
+  state = after z mem ok calls .world .state
+
+  abbrev pub memory : Memory
+  memory = after z mem ok calls .world .memory
+
+  abbrev pub order : List Entry
+  order = shown .one-order .order
+
+  -- the array's values of the written cells of hour h
+  abbrev pub values : ℕ → List ℕ
+  values h = hourIn (filled z) order h
+
+  -- What 9 (state), 10 and 8 look at.
+  abbrev Scanned : Terms → Run State → Type 0
+  Scanned z r = scanOf (r .world .state) ≡ pick (restsIn z (r .book)) Scan.AtRest Scan.AtWork
+
+  abbrev Lent : Run State → Type 0
+  Lent r = lengthsFit (r .world .state .terms) (r .world .memory) ≡ true
+
+  pub scan-told : scanOf state ≡ pick (restsIn z (after z mem ok calls .book)) Scan.AtRest Scan.AtWork
+  scan-told = after-any-calls z (Scanned z) (λ r H. subst (λ (z : Terms). Scanned z r) (H .terms) (Hours.scan-told (H .good))) mem ok calls
+
+  pub lengths-told : lengthsFit (state .terms) memory ≡ true
+  lengths-told = after-any-calls z Lent (λ r H. lengths-fit (H .good .lengths)) mem ok calls
+
+  -- 10 if an operation is under way, 5 if the hour is not there, 18 if none of its cells has a write; 9 and 8 do not occur.
+  pub summary-exactly : (h : ℕ) → summaryOf state h memory ≡ summaryIn z (after z mem ok calls .book) h (values h)
+  summary-exactly = shown .summary
+
+  pub summary-under-way : TenUnderWay z (after z mem ok calls)
+  summary-under-way h u = summary-exactly h ∙ rw (under-way z (after z mem ok calls) u)
 
   module _ (rest : Resting z (after z mem ok calls)) where
-    abbrev pub state : State
-    state = after z mem ok calls .world .state
-
-    abbrev pub memory : Memory
-    memory = after z mem ok calls .world .memory
-
-    abbrev pub order : List Entry
-    order = shown-at-rest rest .one-order .order
-
-    pub scan-at-rest : scanOf state ≡ Scan.AtRest
-    scan-at-rest = shown-at-rest rest .scan
-
     pub written-at-rest : (i : ℕ) → i < z .m → Tells (looked (after z mem ok calls) (cellAt z i)) (writtenIn order i)
-    written-at-rest = shown-at-rest rest .written
+    written-at-rest = shown .at-rest rest .written
 
     pub reading-at-rest : (i : ℕ) → i < z .m → readingAt state (cellAt z i) memory ≡ Quarter.Read (valueIn (filled z) order i) (writtenIn order i)
-    reading-at-rest = shown-at-rest rest .reading
+    reading-at-rest = shown .at-rest rest .reading
 
-    -- the array's values of the written cells of hour h
-    abbrev pub values : ℕ → List ℕ
-    values h = hourIn (filled z) order h
+    -- the order of refusals from 18 on
+    abbrev from-18 : List ℕ → Summary
+    from-18 vs = pick (eqb (length vs) 0) (Summary.Refused Refusal.NothingWritten) (Summary.Of (hourOf vs))
+
+    there : (h : ℕ) → h < z .m / 4 → summaryOf state h memory ≡ from-18 (values h)
+    there h hh = summary-exactly h ∙ rw (Hours.resting-rests z (after z mem ok calls) rest, lt-ltb h (z .m / 4) hh)
 
     pub summary-at-rest : (h : ℕ) → h < z .m / 4 → values h ≢ [] → summaryOf state h memory ≡ Summary.Of (hourOf (values h))
-    summary-at-rest = shown-at-rest rest .hours
+    summary-at-rest h hh some = there h hh ∙ by (values h) some
+      where
+        by : (vs : List ℕ) → vs ≢ [] → from-18 vs ≡ Summary.Of (hourOf vs)
+        by [] n = absurd (n refl)
+        by (v ∷ vs) n = rw (ne-eqb (length (v ∷ vs)) 0 (λ x. let y : ⊥ = omega arith in y))
 
     pub nothing-at-rest : (h : ℕ) → h < z .m / 4 → values h ≡ [] → summaryOf state h memory ≡ Summary.Refused Refusal.NothingWritten
-    nothing-at-rest = shown-at-rest rest .nothing
+    nothing-at-rest h hh none = there h hh ∙ ap from-18 none
 
     pub no-hour-at-rest : (h : ℕ) → z .m / 4 ≤ h → summaryOf state h memory ≡ Summary.Refused Refusal.NoSuchCell
-    no-hour-at-rest = shown-at-rest rest .no-hour
+    no-hour-at-rest h hh = summary-exactly h ∙ rw (Hours.resting-rests z (after z mem ok calls) rest, le-ltb h (z .m / 4) hh)
 
     -- 9 (state), 8, 10 and 9 (word) do not occur.
     pub refused-with-five-or-eighteen : (h : ℕ) (r : Refusal) → summaryOf state h memory ≡ Summary.Refused r → FiveOrEighteen z h (values h) r
@@ -99,6 +153,7 @@ no-values f h = refl
 pub fresh-grid : (z : Terms) (mem : Memory) (ok : Accepted grid z mem) (h : ℕ) → h < z .m / 4
     → summaryOf (openedWorld grid z mem .state) h mem ≡ Summary.Refused Refusal.NothingWritten
 unfolding run
-fresh-grid z mem ok h there =
-    let S = shown-at-rest z mem ok [] (λ q hq. refl) in
-    S .nothing h there (ap (λ (es : List Entry). hourIn (filled z) es h) (no-entries (S .one-order .order) (S .finished)) ∙ no-values (filled z) h)
+fresh-grid z mem ok h hh =
+    let S = shown z mem ok [] in
+    nothing-at-rest z mem ok [] (λ q hq. refl) h hh
+    (ap (λ (es : List Entry). hourIn (filled z) es h) (no-entries (S .one-order .order) (S .at-rest (λ q hq. refl) .finished)) ∙ no-values (filled z) h)

@@ -19,8 +19,8 @@ use Rattle.play.specs.Play.{filled, after}
 use Rattle.planners_text.specs.declared.Wrote.{Wrote}
 use Rattle.planners_text.specs.declared.Wrote.the-variants as Wrote
 use Rattle.planners_text.specs.PlannersText.{page, writeOf}
-use Rattle.planners.specs.Sheet.{shown, shownOf, left, sheetAs, sheetOf}
-use Rattle.planners.specs.Inner.{Small}
+use Rattle.sheet.specs.Sheet.{shown, shownOf, left, sheetAs, sheetOf}
+use Rattle.sheet.specs.Inner.{Small}
 
 module _ (bytes : List ℕ) (h : Header) (n : ℕ) (mem mem′ : Memory) (s : State) (out out′ : List ℕ) (w : Wrote)
     (e : world s mem′ ≡ after bytes (openedWorld grid (termsOf h) mem) n) (f : page w out′ ≡ writeOf s mem′ out) where

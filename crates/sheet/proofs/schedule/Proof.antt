@@ -1,14 +1,14 @@
--- `planners::sheet::schedule` meets its contract.
+-- `sheet::schedule` meets its contract.
 -- Assumes nothing.
 use native.Mathlib.Omega.{arith}
 use mathlib.Core.Path.{refl}
 use Rattle.qhs.specs.Parts.{part-length}
 use Rattle.play.specs.Play.{cellRoom, directoryRoom, poolRoom}
 use Rattle.play.specs.Fills.{filled-is}
-use Rattle.planners.proofs.SheetLaws.{left-filled}
+use Rattle.sheet.proofs.SheetLaws.{left-filled}
 use borrow.Author.Needs.{needs}
-use Rattle.planners.proofs.sheet.schedule.Statement.{statement}
-use Rattle.planners.proofs.sheet.schedule.Tie as tie
+use Rattle.sheet.proofs.schedule.Statement.{statement}
+use Rattle.sheet.proofs.schedule.Tie as tie
 
 cast-low : tie.Need-cast-low
 cast-low c = search needs

@@ -1,9 +1,9 @@
--- `planners::sheet::sheet` meets its contract.
+-- `sheet::sheet` meets its contract.
 -- Assumes nothing.
-use Rattle.planners.proofs.SheetLaws.{small, sheet-refused, sheet-schedule}
+use Rattle.sheet.proofs.SheetLaws.{small, sheet-refused, sheet-schedule}
 use borrow.Author.Needs.{needs}
-use Rattle.planners.proofs.sheet.sheet.Statement.{statement}
-use Rattle.planners.proofs.sheet.sheet.Tie as tie
+use Rattle.sheet.proofs.sheet.Statement.{statement}
+use Rattle.sheet.proofs.sheet.Tie as tie
 
 read-requires : tie.Need-read-requires
 read-requires c κs = search needs

@@ -1,9 +1,9 @@
--- `planners::sheet::run` meets its contract.
+-- `sheet::run` meets its contract.
 -- Assumes nothing.
-use Rattle.planners.proofs.SheetLaws.{left-text, left-refused}
+use Rattle.sheet.proofs.SheetLaws.{left-text, left-refused}
 use borrow.Author.Needs.{needs}
-use Rattle.planners.proofs.sheet.run.Statement.{statement}
-use Rattle.planners.proofs.sheet.run.Tie as tie
+use Rattle.sheet.proofs.run.Statement.{statement}
+use Rattle.sheet.proofs.run.Tie as tie
 
 state-after-requires : tie.Need-state-after-requires
 state-after-requires c κs = search needs

@@ -1,0 +1,5 @@
+-- the statements
+pub mod Printed
+-- the proofs
+pub mod Lines
+pub mod Theorems
