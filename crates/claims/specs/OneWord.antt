@@ -3,7 +3,7 @@
 use Prim.Native.Nat.{ℕ, _+_}
 use mathlib.Core.Path.{_≡_, refl, sym, ap, _∙_, subst}
 use mathlib.Core.Logic.{_≢_}
-use mathlib.Core.Bool.{Bool, true, false}
+use mathlib.Core.Bool.{Bool, true, false, not}
 use mathlib.Core.List.{List}
 use native.Mathlib.Decide.{ℕ-discrete}
 use native.Mathlib.Omega.{arith}
@@ -266,7 +266,7 @@ module _ (z : Terms) (top q : ℕ) (l : Lane) (inForce : ℕ → ℕ) (mem : Mem
   decides Turn.Outside e = none cc
   decides (Turn.Turned d m) e = by (numbersFit z top l d m) e
     where
-      by : (b : Bool) → pick b (Verdict.Moved d m) (Verdict.Refused Refusal.OutOfRange) ≡ Verdict.Moved ch nx → Turns (Turn.Turned d m)
+      by : (b : Bool) → pick (not b) (Verdict.Refused Refusal.OutOfRange) (Verdict.Moved d m) ≡ Verdict.Moved ch nx → Turns (Turn.Turned d m)
       by true h = let f : d ≡ ch = cc in let g : m ≡ nx = cc in rw (f, g)
       by false h = none cc
 
