@@ -22,9 +22,10 @@ use Rattle.acts.specs.declared.Opening.the-variants as Opening
 use Rattle.acts.specs.declared.Opened.{Opened}
 use Rattle.acts.specs.Calls as Calls
 use Rattle.acts.specs.Calls.{fresh, openOf, beginOf, outcome, turnIn, stepOf, settled, advance, numbersFit}
-use Rattle.claims.specs.declared.Word.{Word}
-use Rattle.claims.specs.declared.Word.the-variants as Word
-use Rattle.claims.specs.Words.{wordAt, touched, pastCheck}
+use Rattle.steps.specs.declared.Word.{Word}
+use Rattle.steps.specs.declared.Word.the-variants as Word
+use Rattle.steps.specs.Touched.{touched}
+use Rattle.claims.specs.Words.{wordAt, pastCheck}
 
 -- ONE OUTCOME: any two outcomes that meet the promise of a call coincide.
 abbrev pub OneOpening : Type 0
