@@ -1,5 +1,6 @@
 pub mod Histories
 pub mod Mistakes
 pub mod Lost
+pub mod Spent
 pub mod Tight
 pub mod Shams
