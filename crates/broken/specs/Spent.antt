@@ -11,7 +11,7 @@ use Rattle.logic.specs.Below.{below}
 use Rattle.acts.specs.Calls.{openingOf, begunOf, verdictOf, beginOf}
 use Rattle.acts.specs.Worlds.{Result, Call}
 use Rattle.theory.specs.Interface.{upd, sum}
-use Rattle.demands.specs.Types.{State, Ask, Answer}
+use Rattle.demands.specs.Types.{Refusal, State, Ask, Answer}
 use Rattle.demands.specs.Kinds.{writing}
 use Rattle.demands.specs.Book.{Run, run, start}
 use Rattle.demands.specs.Demand2.{ByTheList}
@@ -33,10 +33,12 @@ pub drawing-again-spends : PoolSpent (terms 2 5) (four .world .state) (four .boo
 unfolding run upd sum ℕ-discrete below openingOf begunOf verdictOf logIn log2 segmentOf offsetOf sizeOf
 drawing-again-spends h = let k : 22 ≤ 20 = h in omega arith
 
--- A link that names no process of the grid: the list says at (a) that the cell is not written, and this machine goes on to (b).
+-- A link that names no process of the grid: the list answers at (a) that the cell is not written; this machine goes on to a process
+-- that is not there, and is refused with 9.
 pub unchecked-leaves-the-list : ByTheList writing unchecked → ⊥
 unfolding below openingOf begunOf verdictOf logIn log2 segmentOf offsetOf sizeOf
 unchecked-leaves-the-list L =
     let s = beginOf (opened 1 1 (stray ∷ []) .state) 0 (Ask.Read (cell 0)) .state in
-    let k : Answer.Going ≡ Answer.Read 7 false 1 = ap (λ (o : Result State). o .answer) (L .steps s 0 (opened 1 1 (stray ∷ []) .memory)) in
+    let k : Answer.Refused Refusal.OutOfRange ≡ Answer.Read 7 false 1 =
+    ap (λ (o : Result State). o .answer) (L .steps s 0 (opened 1 1 (stray ∷ []) .memory)) in
     let y : _≡_ {A = ℕ} 0 1 = cc in omega arith
