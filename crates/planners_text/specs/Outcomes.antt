@@ -24,8 +24,10 @@ use Rattle.planners_text.specs.PlannersText.{textOf, Page, page, putText
 use Rattle.planners_text.specs.Claims.{OneText, BytesAfterStay, RefusedText}
 
 pub one-text : OneText
-one-text s mem out r r′ o o′ e e′ =
-    (by-part (λ (p : Page). p .answer) (writeOf s mem out) (page r o) (page r′ o′) e e′, by-part (λ (p : Page). p .out) (writeOf s mem out) (page r o) (page r′ o′) e e′)
+one-text s mem out r r′ o o′ e e′ = (
+  by-part (λ (p : Page). p .answer) (writeOf s mem out) (page r o) (page r′ o′) e e′,
+  by-part (λ (p : Page). p .out) (writeOf s mem out) (page r o) (page r′ o′) e e′,
+)
 
 -- what holds of each refusal and of the work holds of an order
 either : (C : Page → Type 0) (out : List ℕ) (work : Page) → ((r : Refusal) → C (page (Wrote.Refused r) out)) → C work → (rules : List Rule)

@@ -25,8 +25,10 @@ use Rattle.qhs_writer.specs.Claims.{OneFile, OverLong, BytesAfterStay, R
 use Rattle.qhs_writer.specs.Sizes.{file-length}
 
 pub one-file : OneFile
-one-file h f out r r′ o o′ e e′ =
-    (by-part (λ (p : Page). p .answer) (writeOf h f out) (page r o) (page r′ o′) e e′, by-part (λ (p : Page). p .out) (writeOf h f out) (page r o) (page r′ o′) e e′)
+one-file h f out r r′ o o′ e e′ = (
+  by-part (λ (p : Page). p .answer) (writeOf h f out) (page r o) (page r′ o′) e e′,
+  by-part (λ (p : Page). p .out) (writeOf h f out) (page r o) (page r′ o′) e e′,
+)
 
 pub over-long : OverLong
 unfolding writeOf

@@ -201,8 +201,8 @@ module _ {G : Grid} {oldLink : ℕ → Link} {W : World} (I : Inv G oldLink W) (
   unfolding Kept
   fetches read i e = (
     Log.entry (W .w) q read i a ∷ W .log,
-    Steps.end-quiet I q e _ (mild-look read i Stage.fetch e a (λ z. z) (b .at .2) (OrderLaws.read-answers (G .f) (W .log) i _ _ (C .holds) (C .is-written))) a (W .w .now) refl
-        (λ v z. absurd z) (List·Memᴰ·head refl),
+    Steps.end-quiet I q e _ (mild-look read i Stage.fetch e a (λ z. z) (b .at .2) answers) a (W .w .now) refl (λ v z. absurd z)
+        (List·Memᴰ·head refl),
   )
     where
       b : BusyOk G oldLink W q read i Stage.fetch
@@ -213,5 +213,8 @@ module _ {G : Grid} {oldLink : ℕ → Link} {W : World} (I : Inv G oldLink W) (
 
       C : Certificate I i (b .cell) (b .at .1)
       C = swapped-cell I i (b .cell) (b .at .1)
+
+      answers : a ≡ answer (G .f) (deeds (W .log)) read i
+      answers = OrderLaws.read-answers (G .f) (W .log) i _ _ (C .holds) (C .is-written)
   fetches asked i e = absurd (let h = Steps.busyOk I q e .at .0 in let y : _≡_ {A = ℕ} 0 1 = cc in omega arith)
   fetches (write v) i e = absurd (let h = Steps.busyOk I q e .at .0 in let y : _≡_ {A = ℕ} 0 1 = cc in omega arith)
