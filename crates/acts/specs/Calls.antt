@@ -1,7 +1,7 @@
 -- Open, begin and step: the refusals of each in document 01's order, and all that each call determines.
 -- Assumes nothing.
 use Prim.Native.Nat.{ℕ, _+_}
-use mathlib.Core.Bool.{Bool, not, _&&_}
+use mathlib.Core.Bool.{Bool, false, not, _&&_}
 use mathlib.Core.List.{List, [], _∷_}
 use lib.Dec.{leb, ltb, eqb}
 use lib.ListN.{length, set, replicate}
@@ -10,7 +10,6 @@ use Rattle.numbers.specs.Cells.{processesFit, cellsFit, cellFits}
 use Rattle.numbers.specs.declared.Cell.{Cell}
 use Rattle.numbers.specs.declared.Terms.{Terms}
 use Rattle.refusals.specs.Orders.{Rule, _gives_, orders}
-use Rattle.logic.specs.Pick.{pick}
 use Rattle.refusals.specs.declared.Refusal.{Refusal}
 use Rattle.refusals.specs.declared.Refusal.the-variants as Refusal
 use Rattle.lanes.specs.declared.Check.the-variants as Check
@@ -123,7 +122,6 @@ stepRefusals fits z mem q l =
     ∷ idle (l .op) gives Refusal.NothingUnderWay
     ∷ []
 
--- then 9 (word, draw or new number): a word lies outside its memory, or a number of the state would leave its range.
 -- The operation goes on with one step more, or ends; a lane with no operation under way has taken none.
 abbrev pub advance : Next → Lane → Lane
 advance (Next.Going o) l = withOp l (l .steps + 1) o
@@ -134,10 +132,21 @@ advance (Next.Asked b) l = withOp l 0 Op.Idle
 abbrev pub numbersFit : Terms → ℕ → Lane → Change → Next → Bool
 numbersFit z top l change next = leb (topAfter change top) (poolWords (z .p) (z .m)) && laneFits z (advance next (laneAfter change l))
 
+abbrev pub turnFits : Terms → ℕ → Lane → Turn → Bool
+turnFits z top l Turn.Outside = false
+turnFits z top l (Turn.Turned change next) = numbersFit z top l change next
+
+-- then 9 (word, draw or new number): a word lies outside its memory, or a number of the state would leave its range.
+abbrev pub turnRefusals : Terms → ℕ → Lane → Turn → List Rule
+turnRefusals z top l t = not (turnFits z top l t) gives Refusal.OutOfRange ∷ []
+
+-- A turn that fits moves. (One outside never does.)
+abbrev pub moved : Turn → Verdict
+moved Turn.Outside = Verdict.Refused Refusal.OutOfRange
+moved (Turn.Turned change next) = Verdict.Moved change next
+
 abbrev pub decided : Terms → ℕ → Lane → Turn → Verdict
-decided z top l Turn.Outside = Verdict.Refused Refusal.OutOfRange
-decided z top l (Turn.Turned change next) =
-    pick (numbersFit z top l change next) (Verdict.Moved change next) (Verdict.Refused Refusal.OutOfRange)
+decided z top l t = orders Verdict.Refused (turnRefusals z top l t) (moved t)
 
 -- What a step comes to whose turn is t.
 unfoldable pub verdictOf : Bool → Terms → ℕ → ℕ → Lane → Memory → Turn → Verdict

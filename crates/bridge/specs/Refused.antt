@@ -5,7 +5,8 @@ use mathlib.Core.Path.{_≡_, refl, sym, ap, _∙_}
 use mathlib.Core.Bool.{Bool, true, false, not}
 use mathlib.Core.List.{List, [], _∷_}
 use native.Mathlib.Omega.{arith}
-use Rattle.refusals.specs.Orders.{Rule, _gives_, orders}
+use Rattle.refusals.specs.Orders.{Rule, orders}
+use Rattle.refusals.specs.Laws.{orders-then}
 use Rattle.logic.specs.Pick.{pick}
 use Rattle.lanes.specs.Ranges.{laneOf, stateFits}
 use Rattle.acts.specs.Calls as Grid
@@ -13,19 +14,9 @@ use Rattle.demands.specs.Types.{Refusal, Cell, Terms, Op, State, Memory, Next, 
 use Rattle.acts.specs.Settled.{put-back}
 use Rattle.acts.specs.Worlds.{Reply, Result, grid}
 use Rattle.demands.specs.Kinds.{writing}
-use Rattle.demands.specs.Demand1.{refused, begins, steps, said, beginTable, stepTable, moves, wordTable, Demand1}
+use Rattle.demands.specs.Demand1.{refused, begins, steps, said, beginTable, stepTable, wordTable, Demand1}
 
 -- ---- orders of refusals
-
-orders-map : {A B : Type 0} (h : A → B) (refuse : Refusal → A) (rules : List Rule) (work : A)
-    → h (orders refuse rules work) ≡ orders (λ r. h (refuse r)) rules (h work)
-orders-map h refuse [] work = refl
-orders-map h refuse (r ∷ rs) work = by (r .when) (orders-map h refuse rs work)
-  where
-    by : (t : Bool) → h (orders refuse rs work) ≡ orders (λ r. h (refuse r)) rs (h work)
-        → h (pick t (refuse (r .gives)) (orders refuse rs work)) ≡ pick t (h (refuse (r .gives))) (orders (λ r. h (refuse r)) rs (h work))
-    by true e = refl
-    by false e = e
 
 orders-all : {A : Type 0} (P : A → Type 0) (refuse : Refusal → A) (rules : List Rule) (work : A) → ((r : Refusal) → P (refuse r)) → P work
     → P (orders refuse rules work)
@@ -51,7 +42,7 @@ module _ (s : State) (q : ℕ) (i : Cell) (op : Op) where
 
   pub begin-by-table : said (begins-with .answer) ≡ orders refused (beginTable s q i) begins
   unfolding Grid.begunOf
-  begin-by-table = orders-map (λ (x : Acted). said (x .answer)) (Grid.refusedAs (laneOf s q) (s .top)) (beginTable s q i) _
+  begin-by-table = orders-then (λ (x : Acted). said (x .answer)) (Grid.refusedAs (laneOf s q) (s .top)) (beginTable s q i) _
 
   pub begin-returns : (r : Refusal) → begins-with .answer ≡ Answer.Refused r → Grid.steppedAs s q begins-with ≡ stays s r
   unfolding Grid.begunOf
@@ -79,17 +70,15 @@ module _ (s : State) (q : ℕ) (mem : Memory) (t : Turn) where
   decided-by-table Turn.Outside = refl
   decided-by-table (Turn.Turned change next) = by (Grid.numbersFit (s .terms) (s .top) (laneOf s q) change next)
     where
-      v : Bool → Verdict
-      v t = pick t (Verdict.Moved change next) (Verdict.Refused Refusal.OutOfRange)
-
-      by : (t : Bool) → said (after (v t) .acted .answer) ≡ orders refused (not (moves (v t)) gives Refusal.OutOfRange ∷ []) steps
+      by : (t : Bool) → said (after (pick (not t) (Verdict.Refused Refusal.OutOfRange) (Verdict.Moved change next)) .acted .answer)
+          ≡ pick (not t) (refused Refusal.OutOfRange) steps
       by true = answers (laneOf s q .steps) next
       by false = refl
 
   pub step-by-table : said (Grid.stepBy s q mem t .stepped .answer) ≡ orders refused (stepTable s q mem) (orders refused (wordTable s q t) steps)
   unfolding Grid.verdictOf
   step-by-table =
-      orders-map (λ (v : Verdict). said (after v .acted .answer)) Verdict.Refused (stepTable s q mem) _
+      orders-then (λ (v : Verdict). said (after v .acted .answer)) Verdict.Refused (stepTable s q mem) _
       ∙ ap (orders refused (stepTable s q mem)) (decided-by-table t)
 
   pub step-returns : (r : Refusal) → Grid.stepBy s q mem t .stepped .answer ≡ Answer.Refused r → Grid.stepBy s q mem t ≡ Grid.outcome (stays s r) mem

@@ -1,17 +1,19 @@
--- "Plausible and wrong": machines with the mistakes of document 01's list, each a small variant of the step list.
+-- "Plausible and wrong": machines with the mistakes of document 01's list, each a small variant of the step list. (004's copying is
+-- none of them: it needs arrays that move, which this state has not.)
 -- Assumes nothing.
 use Prim.Native.Nat.{ℕ, _+_}
 use mathlib.Core.Path.{_≡_, refl}
+use mathlib.Core.Bool.{false}
 use lib.Dec.{eqb}
 use lib.ListN.{getD}
 use Rattle.logic.specs.Pick.{pick}
-use Rattle.numbers.specs.Numbers.{linkOf}
+use Rattle.numbers.specs.Numbers.{linkOf, offsetOf}
 use Rattle.numbers.specs.Cells.{markOf, indexOf}
-use Rattle.steps.specs.Steps.{goes, found, markingNext, checkedTurn, putTurn, markingTurn, opTurn}
+use Rattle.steps.specs.Steps.{goes, found, tombstoneFirst, markingNext, checkedTurn, putTurn, markingTurn, opTurn}
 use Rattle.acts.specs.Calls as Grid
 use Rattle.acts.specs.Worlds.{Result, Machine, grid}
 use Rattle.lanes.specs.Ranges.{laneOf, marksOf}
-use Rattle.demands.specs.Types.{Cell, Terms, Marking, Op, Lane, State, Memory, Found, Change, Next, Turn, Ask}
+use Rattle.demands.specs.Types.{Cell, Place, Terms, Marking, Op, Lane, State, Memory, Found, Change, Next, Turn, Ask}
 
 -- A step of another machine, as a result; a machine that opens and begins as the grid does.
 abbrev pub resulted : Grid.Outcome → Result State
@@ -71,3 +73,25 @@ bareTurn q l i Found.Written = checkedTurn q l i Found.Written
 
 abbrev pub noTombstone : Machine State Ask
 noTombstone = by (writing (λ z top q l inForce mem. bareTurn q l) ours)
+
+-- ---- A segment drawn again after a take-back: a place that is its segment's first is taken for one whose segment is not drawn
+
+abbrev pub againAt : ℕ → ℕ → Place → Marking
+againAt q link n = pick (eqb (offsetOf (n .0)) 0) (Marking.Draw false link n) (tombstoneFirst q link n)
+
+abbrev pub againTurn : ℕ → Lane → Cell → Found → Turn
+againTurn q l i Found.Outside = checkedTurn q l i Found.Outside
+againTurn q l i (Found.On c) = checkedTurn q l i (Found.On c)
+againTurn q l i (Found.NotWritten link) = goes (Op.Marking i (againAt q link (record { 0 = l .marks })))
+againTurn q l i Found.Written = checkedTurn q l i Found.Written
+
+abbrev pub drawsAgain : Machine State Ask
+drawsAgain = by (writing (λ z top q l inForce mem. againTurn q l) ours)
+
+-- ---- A link's process number used as an index unchecked: (a) takes every number that a link can hold for one of the grid's
+
+abbrev pub anyProcess : Terms → Terms
+anyProcess z = record { p = 16384; m = z .m; first = z .first; step = z .step }
+
+abbrev pub unchecked : Machine State Ask
+unchecked = by (λ z. opTurn (anyProcess z))

@@ -5,6 +5,7 @@ use mathlib.Core.Path.{_≡_}
 use mathlib.Core.Logic.{_≢_}
 use mathlib.Core.Bool.{true}
 use lib.ListN.{length, getD}
+use Rattle.logic.specs.Determined.{Determined}
 use Rattle.numbers.specs.Numbers.{directoryWord}
 use Rattle.numbers.specs.declared.Terms.{Terms}
 use Rattle.refusals.specs.declared.Refusal.{Refusal}
@@ -22,16 +23,17 @@ use Rattle.acts.specs.declared.Opening.the-variants as Opening
 use Rattle.acts.specs.declared.Opened.{Opened}
 use Rattle.acts.specs.Calls as Calls
 use Rattle.acts.specs.Calls.{fresh, openOf, beginOf, outcome, turnIn, stepOf, settled, advance, numbersFit}
-use Rattle.claims.specs.declared.Word.{Word}
-use Rattle.claims.specs.declared.Word.the-variants as Word
-use Rattle.claims.specs.Words.{wordAt, touched, pastCheck}
+use Rattle.steps.specs.declared.Word.{Word}
+use Rattle.steps.specs.declared.Word.the-variants as Word
+use Rattle.steps.specs.Touched.{touched}
+use Rattle.claims.specs.Words.{wordAt, pastCheck}
 
 -- ONE OUTCOME: any two outcomes that meet the promise of a call coincide.
 abbrev pub OneOpening : Type 0
-OneOpening = (z : Terms) (mem : Memory) (r r′ : Opened) → r ≡ openOf z mem → r′ ≡ openOf z mem → r ≡ r′
+OneOpening = (z : Terms) (mem : Memory) → Determined (λ (r : Opened). r ≡ openOf z mem)
 
 abbrev pub OneBeginning : Type 0
-OneBeginning = (s : State) (q : ℕ) (a : Ask) (r r′ : Stepped) → r ≡ beginOf s q a → r′ ≡ beginOf s q a → r ≡ r′
+OneBeginning = (s : State) (q : ℕ) (a : Ask) → Determined (λ (r : Stepped). r ≡ beginOf s q a)
 
 abbrev pub OneStep : Type 0
 OneStep =

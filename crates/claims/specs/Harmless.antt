@@ -1,13 +1,14 @@
 -- Proofs: one outcome, and harmless refusals.
 -- Assumes nothing.
 use Prim.Native.Nat.{ℕ}
-use mathlib.Core.Path.{_≡_, refl, sym, ap, _∙_}
+use mathlib.Core.Path.{_≡_, refl, ap}
 use mathlib.Core.Bool.{Bool, true, false}
 use mathlib.Core.List.{List, [], _∷_}
 use native.Mathlib.Omega.{arith}
 use Rattle.numbers.specs.declared.Cell.{Cell}
 use Rattle.numbers.specs.declared.Terms.{Terms}
 use Rattle.refusals.specs.Orders.{Rule, orders}
+use Rattle.logic.specs.Determined.{by-equation, by-part}
 use Rattle.logic.specs.Pick.{pick}
 use Rattle.refusals.specs.declared.Refusal.{Refusal}
 use Rattle.refusals.specs.declared.Refusal.the-variants as Refusal
@@ -25,20 +26,22 @@ use Rattle.acts.specs.declared.Opening.the-variants as Opening
 use Rattle.acts.specs.declared.Verdict.{Verdict}
 use Rattle.acts.specs.declared.Verdict.the-variants as Verdict
 use Rattle.acts.specs.Settled.{put-back}
-use Rattle.acts.specs.Calls.{openingOf, openedAs, refusedAs, withOp, beginRefusals, cellOf, opOf, begunOf, steppedAs}
+use Rattle.acts.specs.Calls.{openOf, beginOf, stepOf, openingOf, openedAs, refusedAs, withOp, beginRefusals, cellOf, opOf, begunOf, steppedAs}
 use Rattle.acts.specs.Calls.{answerOf, verdictOf, effectOf, outcome, outcomeAs, turnIn, Outcome}
 use Rattle.claims.specs.Claims.{OneOpening, OneBeginning, OneStep, RefusedOpen, ClosedBegin, ClosedStep, RefusedBegin, RefusedStep}
 use Rattle.claims.specs.Claims.{closed}
 
 pub one-opening : OneOpening
-one-opening z mem r r′ e e′ = e ∙ sym e′
+one-opening z mem = by-equation (openOf z mem)
 
 pub one-beginning : OneBeginning
-one-beginning s q a r r′ e e′ = e ∙ sym e′
+one-beginning s q a = by-equation (beginOf s q a)
 
 pub one-step : OneStep
-one-step s q mem r r′ after after′ e e′ =
-    (ap (λ (x : Outcome). x .stepped) (e ∙ sym e′), ap (λ (x : Outcome). x .memory) (e ∙ sym e′))
+one-step s q mem r r′ after after′ e e′ = (
+  by-part (λ (x : Outcome). x .stepped) (stepOf s q mem) (outcome r after) (outcome r′ after′) e e′,
+  by-part (λ (x : Outcome). x .memory) (stepOf s q mem) (outcome r after) (outcome r′ after′) e e′,
+)
 
 pub refused-open-is-closed : RefusedOpen
 refused-open-is-closed z mem r = by (openingOf z mem)

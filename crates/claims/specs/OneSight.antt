@@ -24,7 +24,8 @@ use Rattle.steps.specs.declared.Found.the-variants as Found
 use Rattle.steps.specs.Memory.{Memory}
 use Rattle.steps.specs.Steps as Steps
 use Rattle.steps.specs.Steps.{startOf, poolWord, ends, check, checkLink, checkedTurn, putTurn, readTurn, askedTurn, markingTurn, found, opTurn}
-use Rattle.claims.specs.Words.{wordAt, touchedIn, touched, pastCheck}
+use Rattle.steps.specs.Touched.{touchedIn, touched}
+use Rattle.claims.specs.Words.{wordAt, pastCheck}
 use Rattle.claims.specs.Claims.{SeesOneWord}
 
 -- a word of two pools of one length that agree there

@@ -1,59 +1,17 @@
--- The shared words: the lent words, each lane's marks in force, and the pool's top.
+-- What a shared word of a state and its memories holds, and what a process knows without a step.
 -- Assumes nothing.
-use Prim.Native.Nat.{ℕ, _+_}
+use Prim.Native.Nat.{ℕ}
 use mathlib.Core.Bool.{Bool, true, false}
-use mathlib.Core.List.{List}
-use lib.ListN.{getD}
-use Rattle.numbers.specs.Numbers.{segmentOf, offsetOf, directoryWord, processOf, placeOf}
-use Rattle.numbers.specs.Cells.{indexOf}
-use Rattle.numbers.specs.declared.Cell.{Cell}
-use Rattle.numbers.specs.declared.Terms.{Terms}
-use Rattle.lanes.specs.declared.Check.{Check}
-use Rattle.lanes.specs.declared.Check.the-variants as Check
-use Rattle.lanes.specs.declared.Marking.{Marking}
-use Rattle.lanes.specs.declared.Marking.the-variants as Marking
 use Rattle.lanes.specs.declared.Op.{Op}
 use Rattle.lanes.specs.declared.Op.the-variants as Op
 use Rattle.lanes.specs.declared.State.{State}
 use Rattle.lanes.specs.Ranges.{marksOf}
+use Rattle.steps.specs.declared.Word.{Word}
 use Rattle.steps.specs.Memory.{Memory}
-use Rattle.steps.specs.Steps.{startOf}
-use Rattle.claims.specs.declared.Word.{Word}
-use Rattle.claims.specs.declared.Word.the-variants as Word
+use Rattle.steps.specs.Touched.{heldIn}
 
--- What a word holds.
 abbrev pub wordAt : State → Memory → Word → ℕ
-wordAt s mem (Word.Reading i) = getD (mem .readings) i 0
-wordAt s mem (Word.Link i) = getD (mem .links) i 0
-wordAt s mem (Word.Directory k) = getD (mem .directory) k 0
-wordAt s mem (Word.Pool k) = getD (mem .pool) k 0
-wordAt s mem (Word.Marks q) = marksOf s q
-wordAt s mem Word.Top = s .top
-
--- The one word that the next step of process q touches. A lane at rest takes no step.
-abbrev pub touchedIn : Terms → Cell → Check → Word
-touchedIn z i Check.Link = Word.Link (indexOf z i)
-touchedIn z i (Check.Marks w) = Word.Marks (processOf w)
-touchedIn z i (Check.Directory w) = Word.Directory (directoryWord (processOf w) (segmentOf (placeOf w)))
-touchedIn z i (Check.Mark start w) = Word.Pool (start + offsetOf (placeOf w))
-
-abbrev pub touchedMarking : Terms → ℕ → List ℕ → Cell → Marking → Word
-touchedMarking z q directory i (Marking.Draw stored w n) = Word.Top
-touchedMarking z q directory i (Marking.Enter stored start w n) = Word.Directory (directoryWord q (segmentOf (n .0)))
-touchedMarking z q directory i (Marking.Tombstone w n) = Word.Pool (startOf directory q (n .0) + offsetOf (n .0))
-touchedMarking z q directory i (Marking.Mark w n) = Word.Pool (startOf directory q (n .0) + offsetOf (n .0))
-touchedMarking z q directory i (Marking.Force w n) = Word.Marks q
-touchedMarking z q directory i (Marking.Swap w n) = Word.Link (indexOf z i)
-touchedMarking z q directory i (Marking.TakeBack n) = Word.Marks q
-
-abbrev pub touched : Terms → ℕ → List ℕ → Op → Word
-touched z q directory Op.Idle = Word.Top
-touched z q directory (Op.Read i c) = touchedIn z i c
-touched z q directory (Op.Reading i) = Word.Reading (indexOf z i)
-touched z q directory (Op.Asked i c) = touchedIn z i c
-touched z q directory (Op.Store i v) = Word.Reading (indexOf z i)
-touched z q directory (Op.Write i c) = touchedIn z i c
-touched z q directory (Op.Marking i k) = touchedMarking z q directory i k
+wordAt s mem w = heldIn (marksOf s) (s .top) mem w
 
 -- In a write's rules 3 to 8 a process knows its own directory words without a step.
 abbrev pub pastCheck : Op → Bool

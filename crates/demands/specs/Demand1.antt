@@ -3,13 +3,12 @@
 -- Assumes nothing.
 use Prim.Native.Nat.{ℕ}
 use mathlib.Core.Path.{_≡_}
-use mathlib.Core.Bool.{Bool, true, false, not}
-use mathlib.Core.List.{List, [], _∷_}
-use Rattle.refusals.specs.Orders.{Rule, _gives_, orders}
+use mathlib.Core.List.{List}
+use Rattle.refusals.specs.Orders.{Rule, orders}
 use Rattle.lanes.specs.Ranges.{laneOf, stateFits}
-use Rattle.acts.specs.Calls.{openRefusals, beginRefusals, stepRefusals, decided}
+use Rattle.acts.specs.Calls.{openRefusals, beginRefusals, stepRefusals, turnRefusals}
 use Rattle.acts.specs.Worlds.{Machine, Reply, Result}
-use Rattle.demands.specs.Types.{Refusal, Cell, Terms, State, Memory, Answer, Opening, Turn, Verdict}
+use Rattle.demands.specs.Types.{Refusal, Cell, Terms, State, Memory, Answer, Opening, Turn}
 use Rattle.demands.specs.Kinds.{Kind}
 
 -- What an answer says of a call: it is refused, or an operation begins, or an operation takes a step.
@@ -35,12 +34,8 @@ abbrev pub stepTable : State → ℕ → Memory → List Rule
 stepTable s q mem = stepRefusals (stateFits s) (s .terms) mem q (laneOf s q)
 
 -- then 9 (word, draw or new number): what the step list says for this step can't be done within the ranges.
-abbrev pub moves : Verdict → Bool
-moves (Verdict.Refused r) = false
-moves (Verdict.Moved change next) = true
-
 abbrev pub wordTable : State → ℕ → Turn → List Rule
-wordTable s q t = not (moves (decided (s .terms) (s .top) (laneOf s q) t)) gives Refusal.OutOfRange ∷ []
+wordTable s q t = turnRefusals (s .terms) (s .top) (laneOf s q) t
 
 abbrev pub refusedOn : {S : Type 0} → S → Refusal → Reply S
 refusedOn s r = record { state = s; answer = Answer.Refused r }

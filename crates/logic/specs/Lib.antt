@@ -1,3 +1,4 @@
+pub mod Determined
 pub mod Pick
 pub mod Truth
 pub mod Below

@@ -9,6 +9,7 @@ use lib.Dec.{ltb}
 use lib.ListN.{length, take, drop}
 use lib.Seq.{take-append-seam, drop-append-seam}
 use borrow.Author.Tests.{ltb-false}
+use Rattle.logic.specs.Determined.{by-part}
 use Rattle.refusals.specs.Orders.{Rule, orders}
 use Rattle.logic.specs.Pick.{pick}
 use Rattle.refusals.specs.declared.Refusal.{Refusal}
@@ -23,9 +24,10 @@ use Rattle.planners_text.specs.PlannersText.{textOf, Page, page, putText
 use Rattle.planners_text.specs.Claims.{OneText, BytesAfterStay, RefusedText}
 
 pub one-text : OneText
-one-text s mem out r r′ o o′ e e′ =
-    let same : page r o ≡ page r′ o′ = e ∙ sym e′ in
-    (ap (λ (p : Page). p .answer) same, ap (λ (p : Page). p .out) same)
+one-text s mem out r r′ o o′ e e′ = (
+  by-part (λ (p : Page). p .answer) (writeOf s mem out) (page r o) (page r′ o′) e e′,
+  by-part (λ (p : Page). p .out) (writeOf s mem out) (page r o) (page r′ o′) e e′,
+)
 
 -- what holds of each refusal and of the work holds of an order
 either : (C : Page → Type 0) (out : List ℕ) (work : Page) → ((r : Refusal) → C (page (Wrote.Refused r) out)) → C work → (rules : List Rule)

@@ -9,6 +9,7 @@ use Rattle.lists.specs.Lists.{gathered}
 use Rattle.logic.specs.Below.{below}
 use Rattle.refusals.specs.Orders.{Rule, _gives_, orders}
 use Rattle.logic.specs.Pick.{pick}
+use Rattle.refusals.specs.declared.Refusal.{Refusal}
 use Rattle.refusals.specs.declared.Refusal.the-variants as Refusal
 use Rattle.numbers.specs.Cells.{cellAt}
 use Rattle.lanes.specs.declared.State.{State}
@@ -64,18 +65,24 @@ pub record Page : Type 0 where
 abbrev pub page : Wrote → List ℕ → Page
 page answer out = record { answer = answer; out = out }
 
--- 17 if the text doesn't fit, with nothing written. Bytes after the text stay.
-abbrev pub putText : State → Memory → List ℕ → Page
-putText s mem out =
-    pick (ltb (length out) (length (textOf s mem)))
-    (page (Wrote.Refused Refusal.NoRoom) out)
-    (page (Wrote.Bytes (length (textOf s mem))) (splice out 0 (textOf s mem)))
+-- With a refusal nothing is written.
+abbrev pub nothingWritten : List ℕ → Refusal → Page
+nothingWritten out r = page (Wrote.Refused r) out
 
--- Refusals: 9 (state), 8, 10, 9 (word), then 17.
+-- Refusals: 9 (state), 8, 10, 9 (word),
 abbrev pub textRefusals : State → Memory → List Rule
 textRefusals s mem =
     unfit (scanOf s) gives Refusal.OutOfRange ∷ not (lengthsFit (s .terms) mem) gives Refusal.OtherLengths
     ∷ atWork (scanOf s) gives Refusal.AtWork ∷ not (wordsFit s mem) gives Refusal.OutOfRange ∷ []
 
+-- then 17 if the text doesn't fit.
+abbrev pub roomRefusals : State → Memory → List ℕ → List Rule
+roomRefusals s mem out = ltb (length out) (length (textOf s mem)) gives Refusal.NoRoom ∷ []
+
+-- Bytes after the text stay.
+abbrev pub putText : State → Memory → List ℕ → Page
+putText s mem out =
+    orders (nothingWritten out) (roomRefusals s mem out) (page (Wrote.Bytes (length (textOf s mem))) (splice out 0 (textOf s mem)))
+
 unfoldable pub writeOf : State → Memory → List ℕ → Page
-writeOf s mem out = orders (λ r. page (Wrote.Refused r) out) (textRefusals s mem) (putText s mem out)
+writeOf s mem out = orders (nothingWritten out) (textRefusals s mem) (putText s mem out)

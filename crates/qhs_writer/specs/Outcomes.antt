@@ -8,6 +8,7 @@ use native.Mathlib.Omega.{arith}
 use lib.ListN.{length, take, drop}
 use lib.Seq.{take-append-seam, drop-append-seam}
 use borrow.Author.Tests.{ltb-false, lt-ltb, le-ltb, le-leb, not-false}
+use Rattle.logic.specs.Determined.{by-part}
 use Rattle.refusals.specs.Laws.{past}
 use Rattle.refusals.specs.Orders.{Rule, orders}
 use Rattle.logic.specs.Pick.{pick}
@@ -24,9 +25,10 @@ use Rattle.qhs_writer.specs.Claims.{OneFile, OverLong, BytesAfterStay, R
 use Rattle.qhs_writer.specs.Sizes.{file-length}
 
 pub one-file : OneFile
-one-file h f out r r′ o o′ e e′ =
-    let same : page r o ≡ page r′ o′ = e ∙ sym e′ in
-    (ap (λ (p : Page). p .answer) same, ap (λ (p : Page). p .out) same)
+one-file h f out r r′ o o′ e e′ = (
+  by-part (λ (p : Page). p .answer) (writeOf h f out) (page r o) (page r′ o′) e e′,
+  by-part (λ (p : Page). p .out) (writeOf h f out) (page r o) (page r′ o′) e e′,
+)
 
 pub over-long : OverLong
 unfolding writeOf

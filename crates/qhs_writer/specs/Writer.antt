@@ -9,6 +9,7 @@ use Rattle.byte_lists.specs.Bytes.{bytesOf}
 use Rattle.logic.specs.Below.{below}
 use Rattle.refusals.specs.Orders.{Rule, _gives_, orders}
 use Rattle.logic.specs.Pick.{pick}
+use Rattle.refusals.specs.declared.Refusal.{Refusal}
 use Rattle.refusals.specs.declared.Refusal.the-variants as Refusal
 use Rattle.qhs.specs.declared.Header.{Header}
 use Rattle.qhs.specs.Qhs.{version1, mostBytes, mostFileCells, mostKind, openRefusals}
@@ -110,7 +111,11 @@ pub record Page : Type 0 where
 abbrev pub page : Wrote → List ℕ → Page
 page answer out = record { answer = answer; out = out }
 
--- Nothing is written when refused. Bytes after the file stay.
+-- With a refusal nothing is written.
+abbrev pub nothingWritten : List ℕ → Refusal → Page
+nothingWritten out r = page (Wrote.Refused r) out
+
+-- Bytes after the file stay.
 unfoldable pub writeOf : Header → Fields → List ℕ → Page
 writeOf h f out =
-    orders (λ r. page (Wrote.Refused r) out) (writeRefusals h f out) (page (Wrote.Bytes (length (fileOf h f))) (splice out 0 (fileOf h f)))
+    orders (nothingWritten out) (writeRefusals h f out) (page (Wrote.Bytes (length (fileOf h f))) (splice out 0 (fileOf h f)))

@@ -1,3 +1,4 @@
 pub mod Numbers
+pub mod Papers
 pub mod Orders
 pub mod Laws

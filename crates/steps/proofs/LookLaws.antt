@@ -6,7 +6,7 @@ use Prim.Native.Nat.{ℕ, _+_, _-_, _%_, _<_, _≤_}
 use native.Mathlib.Omega.{arith}
 use lib.ListN.{length, getD, take, drop, List·getD-eq-default, length-drop}
 use lib.Seq.{getD-take, getD-drop, length-take-le}
-use borrow.Author.Tests.{lt-ltb, le-ltb, eq-eqb, ne-eqb, ltb-true, ltb-false}
+use borrow.Author.Tests.{le-leb, lt-leb, lt-ltb, le-ltb, eq-eqb, ne-eqb, ltb-true, ltb-false}
 use lib.Dec.{ltb}
 use mathlib.Core.Bool.{Bool, true, false}
 use Rattle.numbers.specs.Numbers.{processOf, placeOf, segmentOf, offsetOf, sizeOf, directoryWord}
@@ -44,8 +44,8 @@ module _ (len from n s : ℕ) (h : from < len) (e : s ≡ segmentOf n) where
   size-at : sizeOf s ≡ sizeOf (segmentOf n)
   size-at = rw e
 
-  whole : len ≤ from + sizeOf (segmentOf n) → Part len from n len
-  whole k = record { low = omega arith; high = omega arith; cut = k; holds = λ x. x }
+  whole : len - from < sizeOf (segmentOf n) → Part len from n len
+  whole k = record { is = simp (lt-leb _ _ k); low = omega arith; high = omega arith; cut = omega arith; holds = λ x. x }
 
   pub part-huge : len < 18446744073709551616 → 63 ≤ s → Part len from n len
   part-huge few k = let g = size-at in let d = size-least s 63 k in whole (omega arith)
@@ -56,7 +56,9 @@ module _ (len from n s : ℕ) (h : from < len) (e : s ≡ segmentOf n) where
         let g = size-at in
         let d = size-word s k in
         let o = offset-below n in
-        record { low = omega arith; high = omega arith; cut = omega arith; holds = λ x. omega arith }
+        let k : sizeOf (segmentOf n) ≤ len - from = omega arith in
+        let same : z ≡ sizeOf (segmentOf n) = omega arith in
+        record { is = simp (le-leb _ _ k) (rw same); low = omega arith; high = omega arith; cut = omega arith; holds = λ x. omega arith }
 
     pub part-cut : len - from < z → Part len from n len
     part-cut j = let g = size-at in let d = size-word s k in whole (omega arith)

@@ -42,6 +42,16 @@ pub enum Change {
     Top(u32, u8),
 }
 
+// The shared words: the lent words by their index, each lane's marks in force, and the pool's top.
+pub enum Word {
+    Reading(usize),
+    Link(usize),
+    Directory(usize),
+    Pool(usize),
+    Marks(u32),
+    Top,
+}
+
 // The operation's next stage, or its answer.
 pub enum Next {
     Going(Op),

@@ -3,6 +3,7 @@
 -- Assumes nothing.
 use Prim.Native.Nat.{ℕ}
 use mathlib.Core.Path.{_≡_}
+use Rattle.logic.specs.Determined.{Determined}
 use Rattle.lanes.specs.declared.State.{State}
 use Rattle.steps.specs.Memory.{Memory}
 use Rattle.summary.specs.declared.Summary.{Summary}
@@ -10,7 +11,7 @@ use Rattle.summary.specs.Summary.{summaryOf}
 
 -- Any two outcomes that meet the promise coincide.
 abbrev pub OneSummary : Type 0
-OneSummary = (s : State) (h : ℕ) (mem : Memory) (r r′ : Summary) → r ≡ summaryOf s h mem → r′ ≡ summaryOf s h mem → r ≡ r′
+OneSummary = (s : State) (h : ℕ) (mem : Memory) → Determined (λ (r : Summary). r ≡ summaryOf s h mem)
 
 -- No quarter counts with the filling rule: another rule changes nothing.
 abbrev pub filledBy : ℕ → ℕ → State → State

@@ -8,6 +8,7 @@ use Rattle.numbers.specs.Cells.{cellAt}
 use Rattle.numbers.specs.declared.Cell.{Cell}
 use Rattle.numbers.specs.declared.Terms.{Terms}
 use Rattle.logic.specs.Below.{below}
+use Rattle.logic.specs.Determined.{by-equation}
 use Rattle.logic.specs.Pick.{pick}
 use Rattle.lanes.specs.declared.Check.{Check}
 use Rattle.lanes.specs.declared.Check.the-variants as Check
@@ -25,7 +26,7 @@ use Rattle.summary.specs.Summary.{outside, fourFrom, quarters, anyOutsid
 use Rattle.summary.specs.Claims.{OneSummary, filledBy, WithoutFilling}
 
 pub one-summary : OneSummary
-one-summary s h mem r r′ e e′ = e ∙ sym e′
+one-summary s h mem = by-equation (summaryOf s h mem)
 
 -- ---- another filling rule
 

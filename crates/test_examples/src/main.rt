@@ -1,9 +1,10 @@
 // The starred examples, run on the grid: what each says, and the shared word that each step touches.
+mod touch;
+
 use acts::Answer;
 use acts::Ask;
 use acts::Stepped;
 use byte_lists::Put;
-use claims::Word;
 use lanes::State;
 use libc::STDOUT_FILENO;
 use numbers::Cell;
@@ -11,6 +12,7 @@ use numbers::Mark;
 use numbers::Place;
 use numbers::Process;
 use numbers::Terms;
+use steps::Word;
 
 fn say(w: &[u8]) {
     io::write_all(STDOUT_FILENO, w);
@@ -94,7 +96,7 @@ fn traced(
     say(b"  ");
     number(k as u64);
     say(b" ");
-    shown(claims::touched(s.terms, Process(q), directory, o));
+    shown(touch::touched(s.terms, Process(q), directory, o));
     grid::step(s, Process(q), readings, links, directory, pool)
 }
 

@@ -7,9 +7,9 @@ use Prim.Native.Nat.{ℕ, suc, _<_}
 use native.Mathlib.Decide.{ℕ-discrete, decLt}
 use native.Mathlib.Omega.{arith}
 use Rattle.theory.specs.Base.{pick, upd, upd-same, upd-other}
-use Rattle.theory.specs.Array.{Op, read, asked, write, got}
+use Rattle.theory.specs.Array.{Op, read, asked, write}
 use Rattle.theory.specs.Machine.{Grid, Link, mk, Seen, Marking, Stage, marking, busy, Mem, keep, setLink, setInForce, setDrawn, setMark}
-use Rattle.theory.specs.Machine.{Next, go, end, turnTo, poke, sameLink, usePlace, look, passed, plan, failed, markTurn, takeTurn}
+use Rattle.theory.specs.Machine.{Next, go, end, turnTo, poke, sameLink, usePlace, look, fetched, passed, plan, failed, markTurn, takeTurn}
 use Rattle.theory.specs.Machine.{Watch, nextLane, finish, stepped}
 use Rattle.theory.specs.Run.{Tally}
 use Rattle.theory.specs.Standing.{frontAt, front}
@@ -146,5 +146,5 @@ module _ {G : Grid} {oldLink : ℕ → Link} {T : Tally} {W : World} (I : Inv G 
   acc-stage (Stage.checkDirectory S) e = acc-same e (go (Stage.checkMark S)) refl
   acc-stage (Stage.checkMark S) e =
       acc-test (ℕ-discrete (M .marks (S .at .proc) (S .at .place)) (G .code i)) (Stage.checkMark S) e refl (passed o) (passed-front o i _) S
-  acc-stage Stage.fetch e = acc-same e (end (got (M .reading i) true)) refl
+  acc-stage Stage.fetch e = acc-same e (end (fetched M i)) refl
   acc-stage (marking k) e = acc-marking k e

@@ -9,7 +9,7 @@ use native.Mathlib.Omega.{arith}
 use Rattle.theory.specs.Base.{pick}
 use Rattle.theory.specs.Array.{Op, read, asked, write, Ans, got, told, done, value, written, answer, Writing}
 use Rattle.theory.specs.Order.{Entry, deeds, valueIn, writtenIn}
-use Rattle.theory.specs.Machine.{Grid, Link, Seen, Marking, Stage, marking, busy, Mem, keep, Next, go, end, turnTo, look, passed, plan, failed}
+use Rattle.theory.specs.Machine.{Grid, Link, Seen, Marking, Stage, marking, busy, Mem, keep, Next, go, end, turnTo, look, fetched, passed, plan, failed}
 use Rattle.theory.specs.Standing.{After, settledAt}
 use Rattle.theory.specs.OrderLaws
 use Rattle.theory.specs.World.{World, Swapped, Placed, Unplaced}
@@ -101,7 +101,8 @@ module _ {G : Grid} {oldLink : ℕ → Link} {W : World} (I : Inv G oldLink W) (
         → (newer : List Entry) × Mild I q e (newer ++ W .log) × Dud G oldLink (after o i nx (newer ++ W .log)) q o i
     dud-order read e t = (
       Log.entry (W .w) q read i (got (G .f i) false) ∷ [],
-      mild-look read i Stage.checkLink e (got (G .f i) false) (λ z. z) (Steps.busyOk I q e .at) (rw (OrderLaws.value-unwritten (G .f) (W .log) i t, t)),
+      mild-look read i Stage.checkLink e (got (G .f i) false) (λ z. z) (Steps.busyOk I q e .at)
+          (OrderLaws.read-answers (G .f) (W .log) i _ _ (OrderLaws.value-unwritten (G .f) (W .log) i t) t),
       (W .w .now, List·Memᴰ·head refl),
     )
     dud-order asked e t = (
@@ -200,17 +201,20 @@ module _ {G : Grid} {oldLink : ℕ → Link} {W : World} (I : Inv G oldLink W) (
   unfolding Kept
   fetches read i e = (
     Log.entry (W .w) q read i a ∷ [],
-    Steps.end-quiet I q e _ (mild-look read i Stage.fetch e a (λ z. z) (b .at .2) (rw (C .holds, C .is-written))) a (W .w .now) refl
-        (λ v z. absurd z) (List·Memᴰ·head refl),
+    Steps.end-quiet I q e _ (mild-look read i Stage.fetch e a (λ z. z) (b .at .2) answers) a (W .w .now) refl (λ v z. absurd z)
+        (List·Memᴰ·head refl),
   )
     where
       b : BusyOk G oldLink W q read i Stage.fetch
       b = Steps.busyOk I q e
 
       a : Ans
-      a = got (M .reading i) true
+      a = fetched M i
 
       C : Certificate I i (b .cell) (b .at .1)
       C = swapped-cell I i (b .cell) (b .at .1)
+
+      answers : a ≡ answer (G .f) (deeds (W .log)) read i
+      answers = OrderLaws.read-answers (G .f) (W .log) i _ _ (C .holds) (C .is-written)
   fetches asked i e = absurd (let h = Steps.busyOk I q e .at .0 in let y : _≡_ {A = ℕ} 0 1 = cc in omega arith)
   fetches (write v) i e = absurd (let h = Steps.busyOk I q e .at .0 in let y : _≡_ {A = ℕ} 0 1 = cc in omega arith)

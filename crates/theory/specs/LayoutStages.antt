@@ -7,11 +7,11 @@ use Prim.Native.Nat.{ℕ, zero, suc, _≤_, _<_}
 use native.Mathlib.Decide.{ℕ-discrete, decLt}
 use native.Mathlib.Omega.{arith}
 use Rattle.theory.specs.Base.{pick, upd, upd-same, upd-other}
-use Rattle.theory.specs.Array.{Op, read, asked, write, got}
+use Rattle.theory.specs.Array.{Op, read, asked, write}
 use Rattle.theory.specs.Order.{Entry}
 use Rattle.theory.specs.Segments.{seg-first, seg-next}
 use Rattle.theory.specs.Machine.{Grid, Link, mk, Seen, Marking, Stage, marking, Lane, idle, busy, Mem, keep, setLink}
-use Rattle.theory.specs.Machine.{Next, go, end, Turn, turnTo, sameLink, wordOf, usePlace, look, passed, plan, failed, markTurn, takeTurn}
+use Rattle.theory.specs.Machine.{Next, go, end, Turn, turnTo, sameLink, wordOf, usePlace, look, fetched, passed, plan, failed, markTurn, takeTurn}
 use Rattle.theory.specs.Machine.{firstStage, nextLane, started, stepped}
 use Rattle.theory.specs.Words.{Words, afterStamp, wordsMarked, wordsAfter}
 use Rattle.theory.specs.Standing.{readyAt, ready, usedNext}
@@ -139,7 +139,7 @@ module _ {G : Grid} {oldLink : ℕ → Link} {W : World} (I : Inv G oldLink W) {
   lay-stage (Stage.checkDirectory S) e log = (own, LayoutSteps.lay-directory I Y q o i S e log)
   lay-stage (Stage.checkMark S) e log =
       lay-test (ℕ-discrete (M .marks (S .at .proc) (S .at .place)) (G .code i)) (Stage.checkMark S) e refl (passed o) (pass-lay o) S log
-  lay-stage Stage.fetch e log = lay-same Stage.fetch e (end (got (M .reading i) true)) refl tt log
+  lay-stage Stage.fetch e log = lay-same Stage.fetch e (end (fetched M i)) refl tt log
   lay-stage (marking k) e log = lay-marking k e log
 
 pub lay-begin : {G : Grid} {W : World} {P : Words} {own : ℕ → Link} → Layout G W P own → (q : ℕ) (o : Op) (i : ℕ) → W .w .lane q ≡ idle

@@ -134,6 +134,10 @@ usePlace false q S n = pick (sameLink (S .at) (mk q n)) (tombstone S n) (mark S 
 abbrev pub look : Mem → ℕ → Seen
 look M i = record { at = M .link i }
 
+-- what a read of a written cell answers
+abbrev pub fetched : Mem → ℕ → Ans
+fetched M i = got (M .reading i) true
+
 -- how an operation goes on once its cell is known to be written
 abbrev pub passed : Op → Next
 passed read = go fetch
@@ -172,7 +176,7 @@ module _ (G : Grid) where
   takeTurn M q o i (checkDirectory S) = turnTo keep (go (checkMark S))
   takeTurn M q o i (checkMark S) =
       turnTo keep (pick (ℕ-discrete (M .marks (S .at .proc) (S .at .place)) (G .code i)) (passed o) (failed M q o i S))
-  takeTurn M q o i fetch = turnTo keep (end (got (M .reading i) true))
+  takeTurn M q o i fetch = turnTo keep (end (fetched M i))
   takeTurn M q o i (marking k) = markTurn M q o i k
 
 -- a run so far: the machine, how many calls were made, the call that began each lane's operation, and what has ended

@@ -8,7 +8,7 @@ use Prim.Native.Nat.{ℕ, _<_}
 use native.Mathlib.Decide.{ℕ-discrete}
 use native.Mathlib.Omega.{arith}
 use Rattle.theory.specs.Base.{pick}
-use Rattle.theory.specs.Array.{Op, read, asked, write, valueBy, writtenBy, value, written}
+use Rattle.theory.specs.Array.{Op, read, asked, write, got, valueBy, writtenBy, value, written, answer}
 use Rattle.theory.specs.Order.{Done, Entry, deeds, Orderly, Is, OrderOf, Grown, valueIn, writtenIn}
 
 pub no-false : {A : Type 0} → true ≡ false → A
@@ -28,6 +28,10 @@ pub value-unwritten : (f : ℕ → ℕ) (es : List Entry) (i : ℕ) → writtenI
 unfolding value written deeds
 value-unwritten f [] i h = refl
 value-unwritten f (e ∷ es) i h = unwritten-by (e .op) (e .cell) i (valueIn f es i) (f i) (writtenIn es i) (value-unwritten f es i) h
+
+-- a read answers what the cell holds and whether it is written
+pub read-answers : (f : ℕ → ℕ) (es : List Entry) (i v : ℕ) (b : Bool) → valueIn f es i ≡ v → writtenIn es i ≡ b → got v b ≡ answer f (deeds es) read i
+read-answers f es i v b e h = ap (λ (x : ℕ). got x b) (sym e) ∙ ap (λ (x : Bool). got (valueIn f es i) x) (sym h)
 
 -- an operation stands once
 pub unique : (f : ℕ → ℕ) (es : List Entry) → Orderly f es → (d e : Entry) → List·Memᴰ d es → List·Memᴰ e es → d .began ≡ e .began → d ≡ e

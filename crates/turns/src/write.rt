@@ -39,11 +39,11 @@ fn tombstone_first(q: Process, w: u64, n: Place) -> Marking
 fn marking_at(q: Process, l: Lane, w: u64) -> Marking
     ensures { λ r. ⌜ r ≡ markingAt (q .0) l w ⌝ }
 {
-    let n = Place(l.marks as u64);
-    if numbers::segment_of(n) < l.drawn as u32 {
-        tombstone_first(q, w, n)
+    let first = Place(l.marks as u64);
+    if numbers::segment_of(first) < l.drawn as u32 {
+        tombstone_first(q, w, first)
     } else {
-        Marking::Draw(false, w, n)
+        Marking::Draw(false, w, first)
     }
 }
 

@@ -1,9 +1,9 @@
--- `claims::touched_marking` meets its contract.
+-- `test_examples::touch::touched_marking` meets its contract.
 -- Assumes nothing.
-use Rattle.claims.proofs.TouchLaws.{marking-arm, marking-enter, marking-swap, marking-tombstone, marking-mark}
+use Rattle.test_examples.proofs.TouchLaws.{marking-arm, marking-enter, marking-swap, marking-tombstone, marking-mark}
 use borrow.Author.Needs.{needs}
-use Rattle.claims.proofs.touched_marking.Statement.{statement}
-use Rattle.claims.proofs.touched_marking.Tie as tie
+use Rattle.test_examples.proofs.touch.touched_marking.Statement.{statement}
+use Rattle.test_examples.proofs.touch.touched_marking.Tie as tie
 
 enum-told : tie.Need-enum-told
 enum-told c = search needs

@@ -1,9 +1,9 @@
--- `claims::touched` meets its contract.
+-- `test_examples::touch::touched` meets its contract.
 -- Assumes nothing.
-use Rattle.claims.proofs.TouchLaws.{op-arm, op-reading, op-store}
+use Rattle.test_examples.proofs.TouchLaws.{op-arm, op-reading, op-store}
 use borrow.Author.Needs.{needs}
-use Rattle.claims.proofs.touched.Statement.{statement}
-use Rattle.claims.proofs.touched.Tie as tie
+use Rattle.test_examples.proofs.touch.touched.Statement.{statement}
+use Rattle.test_examples.proofs.touch.touched.Tie as tie
 
 enum-told : tie.Need-enum-told
 enum-told c = search needs

@@ -20,9 +20,9 @@ use Rattle.lanes.specs.declared.Marking.the-variants as Marking
 use Rattle.lanes.specs.declared.Op.{Op}
 use Rattle.lanes.specs.declared.Op.the-variants as Op
 use Rattle.steps.specs.Steps.{startOf}
-use Rattle.claims.specs.declared.Word.{Word}
-use Rattle.claims.specs.declared.Word.the-variants as Word
-use Rattle.claims.specs.Words.{touchedIn, touchedMarking, touched}
+use Rattle.steps.specs.declared.Word.{Word}
+use Rattle.steps.specs.declared.Word.the-variants as Word
+use Rattle.steps.specs.Touched.{touchedIn, touchedMarking, touched}
 
 -- an offset is less than half of its place, so that an address fits 64 bits
 pub address-fits : (start o : ℕ) (n : Place) → o ≡ offsetOf (n .0) → start < 4294967296 → n .0 < 18446744073709551616

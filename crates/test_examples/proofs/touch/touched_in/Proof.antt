@@ -1,9 +1,9 @@
--- `claims::touched_in` meets its contract.
+-- `test_examples::touch::touched_in` meets its contract.
 -- Assumes nothing.
-use Rattle.claims.proofs.TouchLaws.{in-link, in-marks, in-directory, in-mark}
+use Rattle.test_examples.proofs.TouchLaws.{in-link, in-marks, in-directory, in-mark}
 use borrow.Author.Needs.{needs}
-use Rattle.claims.proofs.touched_in.Statement.{statement}
-use Rattle.claims.proofs.touched_in.Tie as tie
+use Rattle.test_examples.proofs.touch.touched_in.Statement.{statement}
+use Rattle.test_examples.proofs.touch.touched_in.Tie as tie
 
 enum-told : tie.Need-enum-told
 enum-told c = search needs

@@ -1,9 +1,9 @@
--- `claims::pool_word` meets its contract.
+-- `test_examples::touch::pool_word` meets its contract.
 -- Assumes nothing.
-use Rattle.claims.proofs.TouchLaws.{address-fits, address-is}
+use Rattle.test_examples.proofs.TouchLaws.{address-fits, address-is}
 use borrow.Author.Needs.{needs}
-use Rattle.claims.proofs.pool_word.Statement.{statement}
-use Rattle.claims.proofs.pool_word.Tie as tie
+use Rattle.test_examples.proofs.touch.pool_word.Statement.{statement}
+use Rattle.test_examples.proofs.touch.pool_word.Tie as tie
 
 offset-of-requires : tie.Need-offset-of-requires
 offset-of-requires c κs = search needs

@@ -1,0 +1,4 @@
+-- the statement
+pub mod Numbered
+-- the proof
+pub mod Computed
