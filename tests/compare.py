@@ -4,11 +4,12 @@
     python3 tests/compare.py planners --fixed 600 --fresh 100 [--jobs 2] --ours COMMAND...
     python3 tests/compare.py rewrite --fixed 600 --fresh 100 [--jobs 2] --ours COMMAND...
     python3 tests/compare.py calls --fixed 20000 --fresh 2000 [--jobs 2] --ours COMMAND...
+    python3 tests/compare.py lists --fixed 2000 --fresh 200 [--jobs 2] --ours COMMAND...
 
 COMMAND is all that follows --ours; it may begin with an emulator. `files`, `planners`
-and `rewrite` start it once a file, `calls` once a batch of vectors. A difference is printed with
-the path of the file that shows it, and the exit status is 1. `--seed S`
-plays a fresh seed again.
+and `rewrite` start it once a file, `calls` and `lists` once a batch of vectors. A difference, or an
+exit status that is not 0, is printed with the path of the file that shows it, and the exit status is 1.
+`--seed S` plays a fresh seed again.
 """
 
 import argparse
@@ -25,6 +26,7 @@ sys.path.insert(0, str(pathlib.Path(__file__).resolve().parent / "independent"))
 
 import calls  # noqa: E402
 import files  # noqa: E402
+import list_vectors  # noqa: E402
 import planners  # noqa: E402
 import program  # noqa: E402
 import rounds  # noqa: E402
@@ -39,7 +41,7 @@ SECONDS_A_RUN = 120
 
 
 def run(command, data):
-    """Standard output of one run; a killed or stuck program is told by its output."""
+    """Standard output of one run; a program that is stuck, is killed or gives another status than 0 is told by its output."""
     try:
         done = subprocess.run(command, input=data, stdout=subprocess.PIPE,
                               timeout=SECONDS_A_RUN, check=False)
@@ -47,6 +49,8 @@ def run(command, data):
         return f"no end after {SECONDS_A_RUN} seconds\n".encode()
     if done.returncode < 0:
         return done.stdout + f"killed by signal {-done.returncode}\n".encode()
+    if done.returncode > 0:
+        return done.stdout + f"exit status {done.returncode}\n".encode()
     return done.stdout
 
 
@@ -87,9 +91,9 @@ def rewrite_items(seed, count):
         yield f"{index:06}.qhs", data, writer.output(data)
 
 
-def call_items(seed, count):
+def call_items(seed, count, made=vectors.block):
     batch, size, number = [], 0, 0
-    for data in vectors.stream(seed, count):
+    for data in vectors.stream(seed, count, made):
         if size + len(data) > BATCH_BYTES:
             yield batch_item(number, batch)
             batch, size, number = [], 0, number + 1
@@ -105,11 +109,16 @@ def batch_item(number, batch):
     return f"{number:04}.vectors", data, expected.encode()
 
 
+def list_items(seed, count):
+    return call_items(seed, count, list_vectors.block)
+
+
 # What is made of a seed, the fixed seed, how many with it, and what they are called.
 WHAT = {"files": (file_items, files.FIXED_SEED, 2_000, "files"),
         "planners": (sheet_items, files.FIXED_SEED, 600, "files"),
         "rewrite": (rewrite_items, files.FIXED_SEED, 600, "files"),
-        "calls": (call_items, vectors.FIXED_SEED, 20_000, "vectors")}
+        "calls": (call_items, vectors.FIXED_SEED, 20_000, "vectors"),
+        "lists": (list_items, vectors.FIXED_SEED, 2_000, "vectors")}
 
 
 # --- Comparing -------------------------------------------------------------------

@@ -1,4 +1,4 @@
-"""Call vectors: reads them on standard input and prints answer, state, memories and buffer after each.
+"""Call vectors: reads them on standard input and prints answer, state, memories and what else was written to after each.
 
 The format is described in tests/CALLS.md.
 """
@@ -9,9 +9,14 @@ from collections import namedtuple
 
 import grid
 import planners
+import qhs
+import writer
 from state import IDLE, LANES, Lane, Memories, Op, State
 
-CALLS = ("open", "begin", "step", "hour", "text")
+CALLS = ("open", "begin", "step", "hour", "text", "batch", "file")
+# The lists that come after the memories; the last of them is written to.
+LISTS = {"batch": ("kinds", "processes", "cells", "values", "answers"),
+         "file": ("kinds", "processes", "cells", "values", "buffer")}
 BEGIN_KINDS = {1: "read", 2: "write", 3: "asked"}
 STAGES = (
     None,
@@ -22,6 +27,7 @@ STAGES = (
     ("write", "mark"), ("write", "take"), ("write", "note"), ("write", "tomb"),
     ("write", "put"), ("write", "force"), ("write", "swap"), ("write", "back"),
 )
+ANSWERS = ("begun", "going", "read", "written", "asked", "refused")  # as a batch numbers them
 STAGE_NUMBER = {name: number for number, name in enumerate(STAGES)}
 HEAD = struct.Struct("<10Q")     # call, a, b, c, d, then p, m, first, step, top
 LANE = struct.Struct("<9Q")
@@ -29,7 +35,7 @@ MEMORY = struct.Struct("<3Q")    # length, fill, exceptions
 PAIR = struct.Struct("<2Q")
 IDLE_WORDS = bytes(LANE.size)
 
-Vector = namedtuple("Vector", "call args state mem")
+Vector = namedtuple("Vector", "call args state mem lists", defaults=((),))
 
 
 class Lent:
@@ -77,7 +83,7 @@ def pack(vector):
     parts = [HEAD.pack(CALLS.index(vector.call), *vector.args, *state[:5])]
     for lane in state.lanes:
         parts.append(IDLE_WORDS if lane == IDLE else LANE.pack(*lane_words(lane)))
-    for memory in vector.mem:
+    for memory in vector.mem + tuple(vector.lists):
         pairs = memory.exceptions()
         parts.append(MEMORY.pack(len(memory), memory.fill, len(pairs)))
         parts.extend(PAIR.pack(*pair) for pair in pairs)
@@ -93,15 +99,15 @@ def unpack(data, at):
         chunk = data[at:at + LANE.size]
         lanes.append(IDLE if chunk == IDLE_WORDS else lane_of(*LANE.unpack(chunk)))
         at += LANE.size
-    memories = []
-    for _ in Memories._fields:
+    memories, name = [], CALLS[call]
+    for _ in Memories._fields + LISTS.get(name, ()):
         length, fill, count = MEMORY.unpack_from(data, at)
         at += MEMORY.size
         end = at + PAIR.size * count
         memories.append(Lent(length, fill, PAIR.iter_unpack(data[at:end])))
         at = end
     state = State(*numbers, tuple(lanes))
-    return Vector(CALLS[call], (a, b, c, d), state, Memories(*memories)), at
+    return Vector(name, (a, b, c, d), state, Memories(*memories[:4]), tuple(memories[4:])), at
 
 
 def vectors_in(data):
@@ -114,7 +120,9 @@ def vectors_in(data):
 # --- The call and what is printed ---------------------------------------------
 
 def page_of(vector):
-    """The buffer lent to the planners' text; other calls are lent none."""
+    """What a call is lent to write to besides its memories: a buffer, a batch's answers; most are lent none."""
+    if vector.lists:
+        return vector.lists[-1]
     room, fill = vector.args[:2] if vector.call == "text" else (0, 0)
     return Lent(room, fill)
 
@@ -122,6 +130,10 @@ def page_of(vector):
 def call(vector, page):
     """The answer and the state after. Memories and buffer are changed in place."""
     a, b, c, d = vector.args
+    if vector.call == "batch":
+        return batch(vector)
+    if vector.call == "file":
+        return write_file(vector, page), vector.state
     if vector.call == "text":
         return write_text(vector, page)
     if vector.call == "open":
@@ -131,6 +143,45 @@ def call(vector, page):
     if vector.call == "step":
         return grid.step(vector.state, a, vector.mem)
     return grid.hour_summary(vector.state, a, vector.mem)
+
+
+def entries(lists):
+    """As many entries as the shortest list has, a tuple for each."""
+    return [tuple(column[i] for column in lists) for i in range(min(map(len, lists)))]
+
+
+def batch(vector):
+    """A begin for each entry of the kinds 1 to 3, a step for each other one; an answer for each."""
+    state, answers = vector.state, vector.lists[-1]
+    for i, (kind, process, cell, value, _) in enumerate(entries(vector.lists)):
+        if kind in BEGIN_KINDS:
+            answer, state = grid.begin(state, process, BEGIN_KINDS[kind], cell, value)
+        else:
+            answer, state = grid.step(state, process, vector.mem)
+        answers[i] = answer_word(*answer)
+    return ("batch",), state
+
+
+def answer_word(name, *numbers):
+    """What was answered, the operation's steps or the refusal, a read's flag, the value."""
+    steps, flag, value = {"begun": lambda: (0, 0, 0), "going": lambda: (0, 0, 0), "read": lambda v, b, n: (n, b, v),
+                          "written": lambda n: (n, 0, 0), "asked": lambda b, n: (n, 0, b),
+                          "refused": lambda r: (r, 0, 0)}[name](*numbers)
+    return ANSWERS.index(name) + steps * 2**8 + flag * 2**16 + value * 2**32
+
+
+def write_file(vector, page):
+    """The header is the arguments and the links' fill."""
+    header = qhs.Header(*vector.args, vector.mem.links.fill)
+    records = [qhs.Record(qhs.KINDS[kind] if kind < len(qhs.KINDS) else None, *fields)
+               for kind, *fields in entries(vector.lists[:4])]
+    try:
+        written = writer.write_file(header, records, len(page))
+    except qhs.FileRefused as refusal:
+        return "refused", refusal.args[0]
+    for index, byte in enumerate(written):
+        page[index] = byte
+    return "file", len(written)
 
 
 def write_text(vector, page):
@@ -143,14 +194,15 @@ def write_text(vector, page):
 
 
 def printed(vector):
-    """The seven lines of one vector: answer, state, four memories, buffer."""
+    """The seven lines of one vector: answer, state, four memories, buffer or answers."""
     page = page_of(vector)
     answer, after = call(vector, page)
     numbers = list(after[:5])
     for lane in after.lanes:
         numbers.extend(lane_words(lane))
     lines = [" ".join(map(str, answer)), " ".join(map(str, numbers))]
-    for name, memory in zip(Memories._fields + ("buffer",), vector.mem + (page,)):
+    last = LISTS.get(vector.call, ("buffer",))[-1]
+    for name, memory in zip(Memories._fields + (last,), vector.mem + (page,)):
         pairs = "".join(f" {i}:{w}" for i, w in memory.exceptions())
         lines.append(f"{name} {len(memory)}{pairs}")
     return "\n".join(lines) + "\n"

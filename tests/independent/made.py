@@ -6,6 +6,7 @@ from state import (IDLE, LANES, LINK_PLACE_HELD, OWNER_HELD, PLACE_HELD, SEGMENT
                    place_of, process_of, segment, size)
 
 MOST_LENGTHS = lengths(16, 65_536)  # of the four memories in a vector
+BLOCK = 20  # vectors made from one random stream
 MOST_LINES = 110  # cells written for a planners' text
 REMEMBERS = ("take", "note", "tomb", "put", "force", "swap")  # hold the link of (a)
 

@@ -2,7 +2,7 @@
 
 from collections import namedtuple
 
-# by: what must tell it apart ("files", "planners", "rewrite", "calls", or several).
+# by: what must tell it apart ("files", "planners", "rewrite", "calls", "lists", or several).
 # edits: (file, text, other text); each text stands exactly once in its file.
 Mutant = namedtuple("Mutant", "name by edits")
 

@@ -1,5 +1,5 @@
-"""Tells every mutant of the independent program apart by the fixed files, the planners' files, the files to write again or the
-vectors, or fails.
+"""Tells every mutant of the independent program apart by the fixed files, the planners' files, the files to write again, the
+vectors or the vectors of calls on lists, or fails.
 
     mutants.py [--jobs 2] [NAME...]     only mutants whose name holds NAME
 """
@@ -15,12 +15,14 @@ from itertools import zip_longest
 
 import calls
 import files
+import list_vectors
 import planners
 import program
 import rounds
 import sheets
 import vectors
 import writer
+from list_mutants import LIST_MUTANTS
 from mutant_list import MUTANTS
 
 HERE = pathlib.Path(__file__).resolve().parent
@@ -30,6 +32,7 @@ SOME_FILES, ALL_FILES = 300, 2_000
 SOME_SHEETS, ALL_SHEETS = 100, 600
 SOME_ROUNDS, ALL_ROUNDS = 100, 600
 SOME_VECTORS, ALL_VECTORS = 2_000, 20_000
+SOME_LISTS, ALL_LISTS = 200, 2_000
 
 sys.dont_write_bytecode = True
 
@@ -87,7 +90,8 @@ def told_by_vector(theirs, data, expected):
 
 # How a mutant is tried: the test, the module, and on how many first.
 TRIALS = {"files": (told_by_file, "program", SOME_FILES), "planners": (told_by_output, "planners", SOME_SHEETS),
-          "rewrite": (told_by_output, "writer", SOME_ROUNDS), "calls": (told_by_vector, "calls", SOME_VECTORS)}
+          "rewrite": (told_by_output, "writer", SOME_ROUNDS), "calls": (told_by_vector, "calls", SOME_VECTORS),
+          "lists": (told_by_vector, "calls", SOME_LISTS)}
 INPUTS = {}  # filled before the workers start
 
 
@@ -98,8 +102,9 @@ def prepare():
     INPUTS["planners"] = [(data, planners.output(data)) for data in made]
     made = [rounds.file_bytes(files.FIXED_SEED, index) for index in range(ALL_ROUNDS)]
     INPUTS["rewrite"] = [(data, writer.output(data)) for data in made]
-    packed = list(vectors.stream(vectors.FIXED_SEED, ALL_VECTORS))
-    INPUTS["calls"] = [(data, calls.printed(calls.unpack(data, 0)[0])) for data in packed]
+    for name, count, made in (("calls", ALL_VECTORS, vectors.block), ("lists", ALL_LISTS, list_vectors.block)):
+        packed = vectors.stream(vectors.FIXED_SEED, count, made)
+        INPUTS[name] = [(data, calls.printed(calls.unpack(data, 0)[0])) for data in packed]
 
 
 def tried(task):
@@ -120,10 +125,11 @@ def main():
     parser.add_argument("names", nargs="*")
     options = parser.parse_args()
     start = time.monotonic()
-    chosen = [mutant for mutant in MUTANTS
+    chosen = [mutant for mutant in MUTANTS + LIST_MUTANTS
               if not options.names or any(name in mutant.name for name in options.names)]
     prepare()
-    print(f"{ALL_FILES} files, {ALL_SHEETS} planners' files, {ALL_ROUNDS} to write again and {ALL_VECTORS} vectors made, {time.monotonic() - start:.0f} s")
+    print(f"{ALL_FILES} files, {ALL_SHEETS} planners' files, {ALL_ROUNDS} to write again, {ALL_VECTORS} vectors and {ALL_LISTS} of calls "
+          f"on lists made, {time.monotonic() - start:.0f} s")
     tasks = [(mutant, by) for by in TRIALS for mutant in chosen if by in mutant.by]
     survivors = 0
     with multiprocessing.get_context("fork").Pool(options.jobs) as pool:

@@ -1,22 +1,14 @@
 // Reads call vectors from standard input, makes each call, and writes what it gave back.
-mod four;
-mod input;
-mod limits;
 mod make;
-mod memories;
-mod nine;
-mod out;
 mod page;
 mod run;
-mod show;
-mod vector;
-mod words;
 
 use libc::STDOUT_FILENO;
-use limits::CELL_WORDS;
-use limits::DIRECTORY_WORDS;
-use limits::INPUT;
-use limits::POOL_WORDS;
+use test_vectors::input;
+use test_vectors::limits::CELL_WORDS;
+use test_vectors::limits::DIRECTORY_WORDS;
+use test_vectors::limits::INPUT;
+use test_vectors::limits::POOL_WORDS;
 
 // The calls of an input of so many bytes.
 fn work(words: &[u64], bytes: usize) {
@@ -27,22 +19,13 @@ fn work(words: &[u64], bytes: usize) {
     let mut buf = io::large_buffer();
     run::all(
         words,
-        words_of(bytes),
+        input::words_of(bytes),
         &mut readings,
         &mut links,
         &mut directory,
         &mut pool,
         &mut buf,
     );
-}
-
-// How many words so many bytes are; the last may be cut.
-fn words_of(bytes: usize) -> usize {
-    if bytes % 8 == 0 {
-        bytes / 8
-    } else {
-        bytes / 8 + 1
-    }
 }
 
 fn main() {

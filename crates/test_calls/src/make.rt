@@ -1,7 +1,4 @@
 // The call itself, through the public functions of the grid, of the hour summary and of the planners' text.
-use super::show::Said;
-use super::words;
-use super::words::low32;
 use acts::Ask;
 use acts::Opening;
 use lanes::State;
@@ -11,12 +8,10 @@ use numbers::Process;
 use numbers::Terms;
 use planners_text::Wrote;
 use summary::Summary;
-
-// The state after a call, and what was answered.
-pub struct Made {
-    pub state: State,
-    pub said: Said,
-}
+use test_vectors::show::Made;
+use test_vectors::show::Said;
+use test_vectors::words;
+use test_vectors::words::low32;
 
 fn argument(input: &[u64], base: usize, k: usize) -> u32 {
     low32(words::at(input, base, k))

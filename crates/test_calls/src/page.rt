@@ -1,9 +1,9 @@
 // The buffer that the planners' text is lent: its length and its fill, as the vector has them.
 ghost use Prim.Native.Nat.{_≤_};
-use super::limits::PAGE;
-use super::vector::TEXT;
-use super::words;
-use super::words::low8;
+use test_vectors::limits::PAGE;
+use test_vectors::vector::TEXT;
+use test_vectors::words;
+use test_vectors::words::low8;
 
 // Its length; no other call is lent one.
 pub fn room(input: &[u64], base: usize) -> usize
