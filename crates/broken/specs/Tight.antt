@@ -1,4 +1,5 @@
--- The bounds of demand 3 are reached: no smaller ones hold. Closed runs of the grid, by computation.
+-- The steps of demand 3 are reached, and of the pool neither 3 words for a cell nor 1 for a loader would do. Closed runs of the
+-- grid, by computation.
 -- Assumes nothing.
 use Prim.Native.Nat.{ℕ, zero, suc}
 use mathlib.Core.Path.{_≡_, refl}
@@ -65,3 +66,20 @@ thirty-words = refl
 pub of-thirty-four : poolBound (terms 1 8) (full .book) ≡ 34
 unfolding run upd sum ℕ-discrete below openingOf begunOf verdictOf logIn log2 segmentOf offsetOf sizeOf
 of-thirty-four = refl
+
+-- One cell and five loaders, each of which has drawn before any has ended: 10 words are handed out, where 4 for the cell and 1 for
+-- each loader would be 9.
+abbrev racing : ℕ → List (Call Ask (terms 5 1))
+racing zero = []
+racing (suc q) = racing q then writes q 0 9 then steps q 4
+
+abbrev crowd : Run State
+crowd = after 5 1 (0 ∷ []) (racing 5)
+
+pub ten-words : crowd .world .state .top ≡ 10
+unfolding run upd sum ℕ-discrete below openingOf begunOf verdictOf logIn log2 segmentOf offsetOf sizeOf
+ten-words = refl
+
+pub of-fourteen : poolBound (terms 5 1) (crowd .book) ≡ 14
+unfolding run upd sum ℕ-discrete below openingOf begunOf verdictOf logIn log2 segmentOf offsetOf sizeOf
+of-fourteen = refl

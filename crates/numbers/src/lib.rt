@@ -39,6 +39,11 @@ pub const SEGMENTS: u32 = 17;
 // An operation's own steps so far, at the most.
 pub const STEPS: u8 = 10;
 
+// Words of the pool for each cell, and for each process.
+pub const CELL_MARKS: usize = 4;
+
+pub const PROCESS_MARKS: usize = 2;
+
 // What a pool word holds where no cell's mark may stand.
 pub const TOMBSTONE: Mark = 4294967295;
 
@@ -72,7 +77,7 @@ pub fn directory_word(q: Process, s: u32) -> usize
 pub fn pool_words(p: u32, m: u32) -> usize
     ensures { λ r. ⌜ r ≡ poolWords p m ⌝ }
 {
-    4 * (m as usize) + 2 * (p as usize)
+    CELL_MARKS * (m as usize) + PROCESS_MARKS * (p as usize)
 }
 
 // The segment of a place: floor(log2(n + 2)) - 1, taken of (n + 2) / 2 because n + 2 may pass 64 bits.

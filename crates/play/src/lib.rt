@@ -9,8 +9,10 @@ pub mod ends;
 mod lists;
 
 use byte_lists::Put;
+use numbers::CELL_MARKS;
 use numbers::LANES;
 use numbers::Mark;
+use numbers::PROCESS_MARKS;
 use numbers::SEGMENTS;
 use qhs::FILE_CELLS;
 use qhs::FILE_RECORDS;
@@ -27,7 +29,7 @@ pub const CELL_WORDS: usize = FILE_CELLS as usize;
 
 pub const DIRECTORY_WORDS: usize = (SEGMENTS as usize) * LANES;
 
-pub const POOL_WORDS: usize = 4 * CELL_WORDS + 2 * LANES;
+pub const POOL_WORDS: usize = CELL_MARKS * CELL_WORDS + PROCESS_MARKS * LANES;
 
 // Plays n records on a grid in the lent memories.
 fn run(

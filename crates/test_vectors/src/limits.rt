@@ -1,5 +1,7 @@
 // What a vector may hold, and how much input is taken. The memories are those of a grid of 65,536 cells, whatever the largest grid is.
+use numbers::CELL_MARKS;
 use numbers::LANES;
+use numbers::PROCESS_MARKS;
 use numbers::SEGMENTS;
 
 // A vector's call and state.
@@ -22,7 +24,7 @@ pub const CELL_WORDS: usize = 65536;
 
 pub const DIRECTORY_WORDS: usize = (SEGMENTS as usize) * LANES;
 
-pub const POOL_WORDS: usize = 4 * CELL_WORDS + 2 * LANES;
+pub const POOL_WORDS: usize = CELL_MARKS * CELL_WORDS + PROCESS_MARKS * LANES;
 
 // The buffer that the planners' text is lent, at the most.
 pub const PAGE: usize = 4096;

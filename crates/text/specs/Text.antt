@@ -9,7 +9,8 @@ use Rattle.acts.specs.declared.Answer.{Answer}
 use Rattle.acts.specs.declared.Answer.the-variants as Answer
 use Rattle.byte_lists.specs.Bytes.{word, newline, decimal}
 
--- One of: begun; going; read V N; written N; asked B N (B is 1 or 0); refused R. N is the operation's own steps.
+-- One of: begun; going; read V B N (B is 1 if the cell is written, 0 if not); written N; asked B N; refused R. N is the operation's
+-- own steps.
 abbrev pub bit : Bool → ℕ
 bit true = 1
 bit false = 0
