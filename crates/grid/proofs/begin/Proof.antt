@@ -77,8 +77,8 @@ returns c =
     let own = c .before .before .before .before .before in
     let d = own .before .before in
     let a = d .before .before .before .before .args in
-    let fine = loop-end (a .s) _ _ _ _ (d .before .before .sizes-fit .ensures) (d .before .lanes-below .ensures .1) (d .loop .inv .0) (own .before .loop-test .left)
-    (d .loop .inv .1) in
+    let fine = loop-end (a .s) _ _ _ _ (d .before .before .sizes-fit .ensures) (d .before .lanes-below .ensures .1)
+    (d .loop .inv .0) (own .before .loop-test .left) (d .loop .inv .1) in
     begun-is (a .s) _ _ (own .lane-of .ensures .0) _ refl _ (a .a) _ _ _ fine (c .before .before .before .cell-of .ensures) (c .before .before .op-of .ensures)
     (c .before .begun .ensures)
 

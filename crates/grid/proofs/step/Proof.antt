@@ -77,8 +77,8 @@ act-requires c κs =
     let own = e .before .before .before in
     let d = own .before .before in
     let a = d .before .before .before .before .before .before .before .before .args in
-    let fine = loop-end (a .s) _ _ _ _ (d .before .before .sizes-fit .ensures) (d .before .lanes-below .ensures .1) (d .loop .inv .0) (own .before .loop-test .left)
-    (d .loop .inv .1) in
+    let fine = loop-end (a .s) _ _ _ _ (d .before .before .sizes-fit .ensures) (d .before .lanes-below .ensures .1)
+    (d .loop .inv .0) (own .before .loop-test .left) (d .loop .inv .1) in
     let seen = e .lane-of2 .ensures .0 ∙ ap laneAt (e .before .named .ensures) in
     judged-at (a .s) (a .q .0) _ (own .lane-of .ensures .0) _ refl _ _ seen refl _ fine
 
@@ -116,8 +116,8 @@ returns c =
     let own = e .before .before .before in
     let d = own .before .before in
     let a = d .before .before .before .before .before .before .before .before .args in
-    let fine = loop-end (a .s) _ _ _ _ (d .before .before .sizes-fit .ensures) (d .before .lanes-below .ensures .1) (d .loop .inv .0) (own .before .loop-test .left)
-    (d .loop .inv .1) in
+    let fine = loop-end (a .s) _ _ _ _ (d .before .before .sizes-fit .ensures) (d .before .lanes-below .ensures .1)
+    (d .loop .inv .0) (own .before .loop-test .left) (d .loop .inv .1) in
     let seen = e .lane-of2 .ensures .0 ∙ ap laneAt (e .before .named .ensures) in
     step-is (a .s) (a .q .0) _ (own .lane-of .ensures .0) _ refl _ _ seen refl _ _ _ _ fine (b .act .ensures)
 
@@ -140,8 +140,8 @@ returns-2 c =
     let own = e .before .before .before in
     let d = own .before .before in
     let a = d .before .before .before .before .before .before .before .before .args in
-    let fine = loop-end (a .s) _ _ _ _ (d .before .before .sizes-fit .ensures) (d .before .lanes-below .ensures .1) (d .loop .inv .0) (own .before .loop-test .left)
-    (d .loop .inv .1) in
+    let fine = loop-end (a .s) _ _ _ _ (d .before .before .sizes-fit .ensures) (d .before .lanes-below .ensures .1)
+    (d .loop .inv .0) (own .before .loop-test .left) (d .loop .inv .1) in
     let seen = e .lane-of2 .ensures .0 ∙ ap laneAt (e .before .named .ensures) in
     step-kept (a .s) (a .q .0) _ (own .lane-of .ensures .0) _ refl _ _ seen refl _ _ _ _ fine (b .act .ensures)
     (sym (c .before .changes .ensures) ∙ c .if1 .left)
