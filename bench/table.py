@@ -162,7 +162,7 @@ def main():
                   [[f"{m:,}", f"{count.opens(m):.0f}", ratio(count.opening(m, "clears"), count.opens(m)),
                     ratio(clock.opening(m, "clears"), clock.opens(m))] for m in CELLS])
 
-    text += ["", "(b) Against the machine in C, which looks at all the lanes at each call; (c) against a plain array in C; (e) the batch, against the",
+    text += ["", "(b) Against the machine in C, which looks at all the lanes at each call; (c) against a plain array in C; (d) the batch, against the",
              "machine in C and against the batch in C, which looks at the lanes once, as the batch does", ""]
     head = ["", "p", "steps", "grid, instructions", "grid ÷ C", "time", "grid ÷ array", "time", "batch ÷ C", "time", "batch ÷ C batch", "time"]
     rows = []
@@ -180,7 +180,7 @@ def main():
                 ratio(cost(of, x), cost(of, y)) for x, y in pairs for of in (count, clock)])
     text += table(head, rows)
 
-    text += ["", "(d) How a step grows: a read of five steps, against the first row of its group; instructions", ""]
+    text += ["", "(e) How a step grows: a read of five steps, against the first row of its group; instructions", ""]
     cost = lambda p, m, busy=0, side="grid": count.operation("read-written", p, m, side, busy)
     rows = [[f"p = {p}, m = 1,024", ratio(cost(p, 1024), cost(1, 1024)), ratio(cost(p, 1024, 0, "c"), cost(1, 1024, 0, "c"))]
             for p in PROCESSES]
