@@ -1,6 +1,6 @@
-"""Turns a schedule written as text into a .qhs file, and back.
+"""Turns a schedule written as text into a .qhs file, corrections into a .qhc file, and both back.
 
-    python3 examples/qhs.py to FILE.txt [FILE.qhs]    FILE.qhs beside the text if not named
+    python3 examples/qhs.py to FILE.txt [FILE.qhs]    FILE.qhs or FILE.qhc beside the text if not named
     python3 examples/qhs.py from FILE.qhs             prints the text
 
 The text, one thing a line, # begins a comment, numbers decimal or 0x…:
@@ -19,6 +19,13 @@ The fill line ends the header. After it a line is a record:
     step P               one step of process P
     steps P N            N steps of process P
 
+With `mark QHC` in the header it is a corrections file, of the second array.
+It has read, step and steps too, no write and no asked, and:
+
+    add P C D            process P begins to add D to cell C; D may be negative
+    swap P C E V         process P begins to put V into cell C if it holds E
+    store P C V          process P begins to put V into cell C
+
 For damaged files the header may also have `mark XYZ` and `version N`, and
 after it `bytes HEX` puts bytes as they are and `pad N` puts N zero bytes.
 A text of `bytes` and `pad` lines alone has no header.
@@ -27,10 +34,17 @@ A text of `bytes` and `pad` lines alone has no header.
 import pathlib
 import struct
 import sys
+from collections import namedtuple
 
 HEADER = struct.Struct("<3sHBHIIQ")
-RECORD = struct.Struct("<BBHI")
-KINDS = ("step", "read", "write", "asked")
+# A form of files: a record's bytes, how many fields they are, and what is written after each kind's name.
+Form = namedtuple("Form", "record fields shapes")
+SCHEDULE = Form(struct.Struct("<BBHI"), 4, {"step": "P", "read": "P C", "write": "P C V", "asked": "P C"})
+CORRECTIONS = Form(struct.Struct("<BBHII"), 5,
+                   {"step": "P", "read": "P C", "swap": "P C E V", "add": "P C D", "store": "P C V"})
+# What a letter stands for, and its limit.
+LETTERS = {"P": ("process", 2**8), "C": ("cell", 2**16), "V": ("value", 2**32), "E": ("expected value", 2**32),
+           "D": ("difference", 2**32), "N": ("number of steps", 2**16)}
 # Header lines that are one number: the number's limit.
 NUMBERS = {"processes": 2**8, "cells": 2**16, "first": 2**32, "step": 2**32, "version": 2**16}
 NEEDED = ("processes", "cells", "first", "step")
@@ -52,6 +66,17 @@ def number(word, what, limit):
     if not 0 <= value < limit:
         raise TextError(f"{what} {value} is not from 0 to {limit - 1}")
     return value
+
+
+def field(word, letter):
+    """The number that a word stands for. A difference may be negative: it counts modulo 2^32."""
+    if letter == "D" and word.startswith("-"):
+        return -number(word[1:], *LETTERS[letter]) % 2**32
+    return number(word, *LETTERS[letter])
+
+
+def form_of(mark):
+    return CORRECTIONS if mark == b"QHC" else SCHEDULE
 
 
 def expect(words, *names):
@@ -104,24 +129,25 @@ def raw_line(words):
         raise TextError("bytes are written as pairs of hexadecimal digits") from None
 
 
-def record_line(words):
+def record_bytes(form, *fields):
+    """A record; the fields that are not told are 0."""
+    return form.record.pack(*fields, *[0] * (form.fields - len(fields)))
+
+
+def record_line(words, form):
     """The bytes of one line after the header."""
     name = words[0]
     if name in ("bytes", "pad"):
         return raw_line(words)
-    shape = {"step": ("P",), "steps": ("P", "N"), "read": ("P", "C"), "asked": ("P", "C"),
-             "write": ("P", "C", "V")}.get(name)
+    shape = "P N" if name == "steps" else form.shapes.get(name)
     if shape is None:
-        raise TextError(f"{name!r} is no record: read, write, asked, step, steps, bytes or pad")
-    expect(words, name, *shape)
-    process = number(words[1], "process", 2**8)
-    if name == "step":
-        return RECORD.pack(0, process, 0, 0)
+        raise TextError(f"{name!r} is no record: {', '.join(form.shapes)}, steps, bytes or pad")
+    letters = shape.split()
+    expect(words, name, *letters)
+    fields = [field(word, letter) for word, letter in zip(words[1:], letters)]
     if name == "steps":
-        return RECORD.pack(0, process, 0, 0) * number(words[2], "number of steps", 2**16)
-    cell = number(words[2], "cell", 2**16)
-    value = number(words[3], "value", 2**32) if name == "write" else 0
-    return RECORD.pack(KINDS.index(name), process, cell, value)
+        return record_bytes(form, 0, fields[0]) * fields[1]
+    return record_bytes(form, list(form.shapes).index(name), *fields)
 
 
 def to_bytes(text):
@@ -138,7 +164,7 @@ def to_bytes(text):
             elif raw:
                 raise TextError("a text that begins with bytes or pad has nothing else")
             elif "fill" in header:
-                parts.append(record_line(words))
+                parts.append(record_line(words, form_of(header.get("mark"))))
             else:
                 header_line(words, header)
                 if "fill" in header:
@@ -180,15 +206,16 @@ def header_text(data):
                     f"fill {told}"]
 
 
-def record_text(kind, process, cell, value):
+def record_text(form, kind, *fields):
     """One record's line, or None if it holds what the text cannot say."""
-    if kind == 0 and cell == value == 0:
-        return f"step {process}"
-    if kind in (1, 3) and value == 0:
-        return f"{KINDS[kind]} {process} {cell}"
-    if kind == 2:
-        return f"write {process} {cell} {value}"
-    return None
+    if kind >= len(form.shapes):
+        return None
+    name, shape = list(form.shapes.items())[kind]
+    letters = shape.split()
+    if any(fields[len(letters):]):
+        return None
+    told = [value - 2**32 if letter == "D" and value >= 2**31 else value for value, letter in zip(fields, letters)]
+    return " ".join(map(str, (name, *told)))
 
 
 def to_text(data):
@@ -196,11 +223,12 @@ def to_text(data):
     lines = header_text(data)
     if lines is None:
         return "\n".join(raw_text(data) or ["bytes"]) + "\n"
-    whole = (len(data) - HEADER.size) // RECORD.size
-    end = HEADER.size + whole * RECORD.size
+    form = form_of(data[:3])
+    whole = (len(data) - HEADER.size) // form.record.size
+    end = HEADER.size + whole * form.record.size
     steps, last = 0, None
-    for record in RECORD.iter_unpack(data[HEADER.size:end]):
-        line = record_text(*record) or f"bytes {RECORD.pack(*record).hex()}"
+    for record in form.record.iter_unpack(data[HEADER.size:end]):
+        line = record_text(form, *record) or f"bytes {form.record.pack(*record).hex()}"
         if line.startswith("step ") and line == last:
             steps += 1
             lines[-1] = f"steps {record[1]} {steps}"
@@ -213,11 +241,12 @@ def to_text(data):
 def main(words):
     if len(words) in (2, 3) and words[0] == "to":
         source = pathlib.Path(words[1])
-        target = pathlib.Path(words[2]) if len(words) == 3 else source.with_suffix(".qhs")
         try:
-            target.write_bytes(to_bytes(source.read_text()))
+            data = to_bytes(source.read_text())
         except TextError as error:
             sys.exit(f"{source}, {error}")
+        beside = source.with_suffix(".qhc" if form_of(data[:3]) is CORRECTIONS else ".qhs")
+        (pathlib.Path(words[2]) if len(words) == 3 else beside).write_bytes(data)
     elif len(words) == 2 and words[0] == "from":
         sys.stdout.write(to_text(pathlib.Path(words[1]).read_bytes()))
     else:

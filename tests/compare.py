@@ -6,8 +6,11 @@
     python3 tests/compare.py calls --fixed 20000 --fresh 2000 [--jobs 2] --ours COMMAND...
     python3 tests/compare.py lists --fixed 2000 --fresh 200 [--jobs 2] --ours COMMAND...
 
-COMMAND is all that follows --ours; it may begin with an emulator. `files`, `planners`
-and `rewrite` start it once a file, `calls` and `lists` once a batch of vectors. A difference, or an
+and of the second array, in the same way: corrections (its files), corrected (the planners' text of one), second (its
+calls), second-lists (its batch).
+
+COMMAND is all that follows --ours; it may begin with an emulator. What compares files starts it once a file, what
+compares vectors once a batch of them. A difference, or an
 exit status that is not 0, is printed with the path of the file that shows it, and the exit status is 1.
 `--seed S` plays a fresh seed again.
 """
@@ -21,12 +24,14 @@ import sys
 import tempfile
 import time
 from concurrent.futures import ThreadPoolExecutor
+from functools import partial
 
 sys.path.insert(0, str(pathlib.Path(__file__).resolve().parent / "independent"))
 
 import calls  # noqa: E402
+import correction_files  # noqa: E402
+import corrections  # noqa: E402
 import files  # noqa: E402
-import list_vectors  # noqa: E402
 import planners  # noqa: E402
 import program  # noqa: E402
 import rounds  # noqa: E402
@@ -73,27 +78,18 @@ def keep(name, data):
 
 # --- What is compared: a name, the input, the expected output --------------------
 
-def file_items(seed, count):
+def file_items(seed, count, file_bytes, output):
+    """Files of a seed, and what the independent program prints for each."""
     for index in range(count):
-        data = files.file_bytes(seed, index)
-        yield f"{index:06}.qhs", data, program.output(data).encode()
+        data = file_bytes(seed, index)
+        expected = output(data)
+        yield f"{index:06}.qhs", data, expected if isinstance(expected, bytes) else expected.encode()
 
 
-def sheet_items(seed, count):
-    for index in range(count):
-        data = sheets.file_bytes(seed, index)
-        yield f"{index:06}.qhs", data, planners.output(data).encode()
-
-
-def rewrite_items(seed, count):
-    for index in range(count):
-        data = rounds.file_bytes(seed, index)
-        yield f"{index:06}.qhs", data, writer.output(data)
-
-
-def call_items(seed, count, made=vectors.block):
+def call_items(seed, count, block):
+    """Vectors of a seed in batches, and the lines of each batch."""
     batch, size, number = [], 0, 0
-    for data in vectors.stream(seed, count, made):
+    for data in vectors.stream(seed, count, block):
         if size + len(data) > BATCH_BYTES:
             yield batch_item(number, batch)
             batch, size, number = [], 0, number + 1
@@ -109,16 +105,22 @@ def batch_item(number, batch):
     return f"{number:04}.vectors", data, expected.encode()
 
 
-def list_items(seed, count):
-    return call_items(seed, count, list_vectors.block)
+# Of files: how they are made, what is printed for one, how many with the fixed seed.
+FILES = {"files": (files.file_bytes, program.output, 2_000),
+         "planners": (sheets.file_bytes, planners.output, 600),
+         "rewrite": (rounds.file_bytes, writer.output, 600),
+         "corrections": (correction_files.file_bytes, corrections.output, 1_000),
+         "corrected": (correction_files.sheet_bytes, corrections.text_output, 400)}
+# Of vectors, how many with the fixed seed.
+VECTORS = {"calls": 20_000, "lists": 2_000, "second": 10_000, "second-lists": 1_000}
 
 
-# What is made of a seed, the fixed seed, how many with it, and what they are called.
-WHAT = {"files": (file_items, files.FIXED_SEED, 2_000, "files"),
-        "planners": (sheet_items, files.FIXED_SEED, 600, "files"),
-        "rewrite": (rewrite_items, files.FIXED_SEED, 600, "files"),
-        "calls": (call_items, vectors.FIXED_SEED, 20_000, "vectors"),
-        "lists": (list_items, vectors.FIXED_SEED, 2_000, "vectors")}
+def chosen(what):
+    """What is made of a seed and a count, the fixed seed, how many with it, and what they are called."""
+    if what in VECTORS:
+        return partial(call_items, block=vectors.BLOCKS[what]), vectors.FIXED_SEED, VECTORS[what], "vectors"
+    made, output, usual = FILES[what]
+    return partial(file_items, file_bytes=made, output=output), files.FIXED_SEED, usual, "files"
 
 
 # --- Comparing -------------------------------------------------------------------
@@ -157,7 +159,7 @@ def settle(item, job):
 
 def main():
     parser = argparse.ArgumentParser(description=__doc__.splitlines()[0])
-    parser.add_argument("what", choices=tuple(WHAT))
+    parser.add_argument("what", choices=tuple(FILES) + tuple(VECTORS))
     parser.add_argument("--fixed", "--count", type=int)
     parser.add_argument("--fresh", type=int)
     parser.add_argument("--seed", help="instead of a fresh seed")
@@ -166,7 +168,7 @@ def main():
     options = parser.parse_args()
     if not options.ours or not shutil.which(options.ours[0]):
         parser.error("--ours needs a command that can be run")
-    items, fixed_seed, usual, called = WHAT[options.what]
+    items, fixed_seed, usual, called = chosen(options.what)
     fixed = usual if options.fixed is None else options.fixed
     fresh = fixed // 10 if options.fresh is None else options.fresh
     seed = options.seed or str(random.SystemRandom().randrange(2**32))

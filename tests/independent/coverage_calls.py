@@ -10,14 +10,15 @@ import calls
 import grid
 import planners
 import vectors
+from coverage import shown
 from made import MOST_LENGTHS
-from state import filled, lengths_fit, state_fits
+from state import EITHER_ARRAY, FIRST_ARRAY, filled, lengths_fit, state_fits
 
 # Stages that hold a value, a link, a place, a start, the flag; all but 0 hold a cell.
 HOLDS_VALUE = {10}
-HOLDS_LINK = {2, 3, 4, 7, 8, 9, 12, 13, 14, 15, 16, 17, 18, 19, 20}
+HOLDS_LINK = {2, 3, 4, 7, 8, 9, 12, 13, 14, 15, 16, 17, 18, 19, 20, 23, 24, 25}
 HOLDS_PLACE = set(range(15, 22))
-HOLDS_START = {4, 9, 14, 16}
+HOLDS_START = {4, 9, 14, 16, 25}
 HOLDS_FLAG = {15, 16}
 
 # Stage numbers, and what a step from them can do once states, lengths and process are in order.
@@ -45,19 +46,24 @@ EXPECTED = (
     + ["hour: 9 (word)", "9 (word) and 18 at once", "open: open", "begin: begun",
        "a large grid's step", "a lane at or above p that is not idle", "8 and 4 at once",
        "10 and 5 at once", "6 and 5 at once", "9 (state) and 8 at once", "1 and 3 at once"]
+    + [f"{call}: 9 for an operation of the other array alone" for call in ("begin", "step")]
+    + [f"{call}: 10 for an operation of the second array alone" for call in ("hour", "text")]
 )
 
 
 def promised(vector):
     """Does the vector keep the limits of tests/CALLS.md?"""
-    good = all(number < 2**32 for number in vector.args + vector.state[:5])
+    good = all(number < 2**32 for number in vector.args[:3] + vector.state[:5])
+    good &= vector.args[3] < (2**64 if vector.call == "second begin" else 2**32)
+    for act, value, new, was in map(calls.hand_words, calls.hands_of(vector.state)):
+        good &= value < 2**32 and new < 2**32 and was < 2**32 and (act == 0 or new == 0)
     if vector.call == "text":
         good &= vector.args[0] <= vectors.MOST_ROOM and vector.args[1] < 2**8
     for lane in vector.state.lanes:
         marks, drawn, steps, stage, cell, value, link, place, start = calls.lane_words(lane)
         flag, start = divmod(start, 2**32)
         good &= marks < 2**32 and drawn < 2**8 and steps < 2**8
-        for word, limit, stages in ((cell, 2**32, range(1, 22)), (value, 2**32, HOLDS_VALUE),
+        for word, limit, stages in ((cell, 2**32, range(1, 27)), (value, 2**32, HOLDS_VALUE),
                                     (link, 2**64, HOLDS_LINK), (place, 2**64, HOLDS_PLACE),
                                     (start, 2**32, HOLDS_START), (flag, 2, HOLDS_FLAG)):
             good &= word < limit if stage in stages else word == 0
@@ -69,7 +75,7 @@ def promised(vector):
 
 def look(vector, seen):
     state, mem, first = vector.state, vector.mem, vector.args[0]
-    fits = vector.call != "open" and state_fits(state)
+    fits = vector.call != "open" and state_fits(state, EITHER_ARRAY if vector.call in ("hour", "text") else FIRST_ARRAY)
     right = lengths_fit(state.p, state.m, mem)
     page = calls.page_of(vector)
     answer, _ = calls.call(vector, page)
@@ -95,6 +101,7 @@ def look(vector, seen):
         seen["hour: a written 0"] += (0, 1) in found
     else:
         seen[f"{vector.call}: {' '.join(map(str, answer)) if name == 'refused' else name}"] += 1
+    look_arrays(vector, answer, seen)
     beyond = state.lanes[state.p:] if state.p <= 16 else ()
     seen["a lane at or above p that is not idle"] += fits and any(lane.op for lane in beyond)
     seen["9 (state) and 8 at once"] += vector.call == "step" and not fits and not right
@@ -106,6 +113,17 @@ def look(vector, seen):
         seen["6 and 5 at once"] += vector.args[2] >= state.m
     if answer == ("refused", 1):
         seen["1 and 3 at once"] += not lengths_fit(first, vector.args[1], mem)
+
+
+def look_arrays(vector, answer, seen):
+    """A refusal that an operation of the other array alone brings about."""
+    state = vector.state
+    if vector.call == "open" or not state_fits(state, EITHER_ARRAY):
+        return
+    kinds = {lane.op.kind for lane in state.lanes[:state.p] if lane.op}
+    seen[f"{vector.call}: 9 for an operation of the other array alone"] += \
+        answer == ("refused", 9) and not state_fits(state, FIRST_ARRAY)
+    seen[f"{vector.call}: 10 for an operation of the second array alone"] += answer == ("refused", 10) and kinds == {"alter"}
 
 
 def look_read(state, op, mem, answer, seen):
@@ -148,11 +166,7 @@ def main():
         if not promised(vector) or calls.pack(vector) != data:
             sys.exit(f"a vector that breaks a promise of tests/CALLS.md: {vector}")
         look(vector, seen)
-    for name in EXPECTED:
-        print(f"{seen[name]:9} {name}")
-    missing = [name for name in EXPECTED if not seen[name]]
-    print(f"{count} vectors, {len(EXPECTED)} kinds of event, {len(missing)} missing {missing or ''}")
-    sys.exit(bool(missing))
+    sys.exit(shown(seen, EXPECTED, f"{count} vectors"))
 
 
 if __name__ == "__main__":

@@ -10,27 +10,38 @@ import calls
 import list_vectors
 import qhs
 import vectors
+from coverage import shown
 from coverage_calls import promised
-from state import state_fits
+from state import EITHER_ARRAY, FIRST_ARRAY, SECOND_ARRAY, state_fits
 
-COUNT = 2_000
-ENTRIES = ("begun", "going", "read", "written", "asked")
+COUNT = 2_000       # of the first array's calls on lists, and of the writer's
+SECOND_COUNT = 1_000
+# What an entry of a batch can be answered with.
+ENTRIES = {"batch": ("begun", "going", "read", "written", "asked"),
+           "second batch": ("begun", "going", "read alone", "was, set", "was, not set")}
+ENDS = ("read", "written", "asked", "read alone", "was, set", "was, not set")
 REFUSED = (4, 5, 6, 7, 8, 9)
-BATCHES = ("a kind above 3 steps", "an empty list", "each list the shortest", "more answers than entries", "a state out of its ranges",
-           "two operations end", "a word lies outside, and the next entry goes on", "others at work")
+BATCHES = ("a kind that begins nothing steps", "an empty list", "each list the shortest", "more answers than entries",
+           "a state out of its ranges", "an operation of the other array", "two operations end",
+           "a word lies outside, and the next entry goes on", "others at work")
+WHOSE = {"batch": FIRST_ARRAY, "second batch": SECOND_ARRAY}
+KINDS = {"batch": calls.BEGIN_KINDS, "second batch": calls.SECOND_KINDS}
 FILES = ("no record", "as many records as a file has", "exactly long enough", "bytes after the file", "17, one byte short",
          "16 before 13 and 15", "13 before 15 and 1", "15 before 1 and 2", "1 before 2 and 17", "an unknown kind after the last record",
          "each list the shortest", "a step with a cell and a value")
-EXPECTED = ([f"entry: {name}" for name in ENTRIES] + [f"entry: refused {r}" for r in REFUSED]
-            + [f"batch: {what}" for what in BATCHES]
+EXPECTED = ([f"{call}, entry: {name}" for call, names in ENTRIES.items() for name in names]
+            + [f"{call}, entry: refused {r}" for call in ENTRIES for r in REFUSED]
+            + [f"{call}: {what}" for call in ENTRIES for what in BATCHES]
             + [f"file: refused {r}" for r in (16, 13, 15, 1, 2, 17)] + [f"file: {what}" for what in FILES])
 
 
 def kept(vector):
     """Do the lists keep their limits?"""
-    most = [list_vectors.MOST_ENTRIES] * 4 + [list_vectors.MOST_ROOM if vector.call == "file" else list_vectors.MOST_ENTRIES]
+    limits = list_vectors.LIMITS[vector.call]
+    most = [list_vectors.MOST_ENTRIES] * (len(limits) - 1)
+    most.append(list_vectors.MOST_ROOM if vector.call == "file" else list_vectors.MOST_ENTRIES)
     return all(len(x) <= n and x.fill < limit and all(i < len(x) and w < limit for i, w in x.exceptions())
-               for x, n, limit in zip(vector.lists, most, list_vectors.LIMITS[vector.call]))
+               for x, n, limit in zip(vector.lists, most, limits, strict=True))
 
 
 def shortest(lists):
@@ -39,27 +50,37 @@ def shortest(lists):
     return order[0] if len(lists[order[0]]) < len(lists[order[1]]) else None
 
 
+def answered(word):
+    """The name of an entry's answer, and its steps or its refusal."""
+    name, count = calls.ANSWERS[word % 2**8], word // 2**8 % 2**8
+    if name == "was":
+        name += ", set" if word // 2**16 % 2 else ", not set"
+    return name, count
+
+
 def look_batch(vector, seen, short):
-    found = [entry[:4] for entry in calls.entries(vector.lists)]
-    fits = state_fits(vector.state)
-    before = sum(lane.op is not None for lane in vector.state.lanes)
+    call, state = vector.call, vector.state
+    found = calls.entries(vector.lists)
+    fits = state_fits(state, WHOSE[call])
+    before = sum(lane.op is not None for lane in state.lanes)
     calls.call(vector, calls.page_of(vector))
-    words = [vector.lists[-1][i] for i in range(len(found))]
-    answers = [(calls.ANSWERS[w % 2**8], w // 2**8 % 2**8) for w in words]
+    answers = [answered(vector.lists[-1][i]) for i in range(len(found))]
     for name, count in answers:
-        seen[f"entry: refused {count}" if name == "refused" else f"entry: {name}"] += 1
-    short["batch", shortest(vector.lists)] += 1
-    going = [name == "going" for name, _ in answers]
-    shows = {"a kind above 3 steps": any(kind > 3 and goes for (kind, *_), goes in zip(found, going)),
+        seen[f"{call}, entry: refused {count}" if name == "refused" else f"{call}, entry: {name}"] += 1
+    short[call, shortest(vector.lists)] += 1
+    idle = [kind not in KINDS[call] and kind > 0 for kind, *_ in found]
+    refused = set(answers) == {("refused", 9)}
+    shows = {"a kind that begins nothing steps": any(one and name == "going" for one, (name, _) in zip(idle, answers)),
              "an empty list": not found and max(map(len, vector.lists)) > 0,
              "more answers than entries": len(vector.lists[-1]) > len(found) > 0,
-             "a state out of its ranges": not fits and found and set(answers) == {("refused", 9)},
-             "two operations end": sum(name in ("read", "written", "asked") for name, _ in answers) >= 2,
+             "a state out of its ranges": not state_fits(state, EITHER_ARRAY) and refused,
+             "an operation of the other array": state_fits(state, EITHER_ARRAY) and not fits and refused,
+             "two operations end": sum(name in ENDS for name, _ in answers) >= 2,
              "a word lies outside, and the next entry goes on":
                  fits and any(one == ("refused", 9) and other[0] != "refused" for one, other in zip(answers, answers[1:])),
              "others at work": before > 1 and fits}
     for what, holds in shows.items():
-        seen[f"batch: {what}"] += bool(holds)
+        seen[f"{call}: {what}"] += bool(holds)
 
 
 def look_file(vector, seen, short):
@@ -89,18 +110,15 @@ def look_file(vector, seen, short):
 
 def main():
     seen, short = Counter(), Counter()
-    for data in vectors.stream(vectors.FIXED_SEED, COUNT, list_vectors.block):
-        vector, _ = calls.unpack(data, 0)
-        if not promised(vector) or not kept(vector) or calls.pack(vector) != data:
-            sys.exit(f"a vector that breaks a promise of tests/CALLS.md: {vector}")
-        (look_batch if vector.call == "batch" else look_file)(vector, seen, short)
-    seen["batch: each list the shortest"] = min(short["batch", k] for k in range(5))
-    seen["file: each list the shortest"] = min(short["file", k] for k in range(4))
-    for name in EXPECTED:
-        print(f"{seen[name]:9} {name}")
-    missing = [name for name in EXPECTED if not seen[name]]
-    print(f"{COUNT} vectors of calls on lists, {len(EXPECTED)} kinds of event, {len(missing)} missing {missing or ''}")
-    sys.exit(bool(missing))
+    for block, count in ((list_vectors.block, COUNT), (list_vectors.second_block, SECOND_COUNT)):
+        for data in vectors.stream(vectors.FIXED_SEED, count, block):
+            vector, _ = calls.unpack(data, 0)
+            if not promised(vector) or not kept(vector) or calls.pack(vector) != data:
+                sys.exit(f"a vector that breaks a promise of tests/CALLS.md: {vector}")
+            (look_file if vector.call == "file" else look_batch)(vector, seen, short)
+    for call, lists in (("batch", 5), ("second batch", 6), ("file", 4)):
+        seen[f"{call}: each list the shortest"] = min(short[call, k] for k in range(lists))
+    sys.exit(shown(seen, EXPECTED, f"{COUNT} and {SECOND_COUNT} vectors of calls on lists"))
 
 
 if __name__ == "__main__":

@@ -1,8 +1,13 @@
 """Faults for call vectors: numbers of a state at their limits or past them, memories of other lengths, processes that are not there."""
 
-from calls import Lent
-from made import MOST_LENGTHS, u32
-from state import LANES, PLACE_HELD, Memories, link_to, place_of, process_of, with_lane
+from calls import Lent, hands_of
+from made import MOST_LENGTHS, STAGES_OF, a_steps, an_op, u32
+from state import (EITHER_ARRAY, FIRST_ARRAY, LANES, PLACE_HELD, SECOND_ARRAY, Memories, link_to,
+                   place_of, process_of, with_lane)
+
+# The stages that no operation of the first array has, and of the second.
+NOT_FIRST, NOT_SECOND = ([n for n in STAGES_OF[EITHER_ARRAY] if n not in STAGES_OF[whose]]
+                         for whose in (FIRST_ARRAY, SECOND_ARRAY))
 
 
 def other_lengths(rng, mem):
@@ -27,7 +32,16 @@ def damaged(rng, state, p, m, q):
             ("top", (total, total + 1, total + 1, 2**32 - 1, 2**31))))
         return state._replace(**{field: u32(rng.choice(words))})
     r = rng.choice((q, q, rng.randrange(p), rng.randrange(LANES)))
+    if rng.random() < 0.1:
+        return with_lane(state, r, of_other_array(rng, state, r, p, m))
     return with_lane(state, r, damaged_lane(rng, state.lanes[r], p, m))
+
+
+def of_other_array(rng, state, r, p, m):
+    """The lane with an operation of the other array under way, every number in its range."""
+    marks = [lane.marks for lane in state.lanes]
+    stage = rng.choice(NOT_SECOND if hands_of(state) else NOT_FIRST)
+    return state.lanes[r]._replace(steps=a_steps(rng), op=an_op(rng, p, m, r, marks, EITHER_ARRAY, stage))
 
 
 def damaged_lane(rng, lane, p, m):

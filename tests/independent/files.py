@@ -14,7 +14,6 @@ import qhs
 from state import link_to
 
 FIXED_SEED = 20_260_101
-KIND_NUMBER = {kind: number for number, kind in enumerate(qhs.KINDS)}
 PAUSES = ("store", "link", "marks", "dir", "mark", "reading", "take", "note",
           "tomb", "put", "force", "swap", "back")
 ONES = 2**64 - 1
@@ -33,23 +32,32 @@ def record(kind, process=0, cell=0, value=0):
 class Schedule:
     """A file under way, with a grid run along so that the maker sees the stages."""
 
+    player = program.SCHEDULES
+    pauses = PAUSES
+
     def __init__(self, rng, p, m, first, step, fill):
-        self.rng, self.p, self.m = rng, p, m
-        self.data = [header(p, m, first, step, fill)]
-        self.state, self.mem, _ = program.opened(self.data[0])
+        self.rng, self.p, self.m, self.form = rng, p, m, self.player.form
+        self.data = [header(p, m, first, step, fill, self.form.mark)]
+        self.state, self.mem, _ = program.opened(self.data[0], self.player)
         self.junk = rng.random() < 0.3  # in the fields a kind does not need
 
     def __len__(self):
         return len(self.data) - 1
 
-    def put(self, kind, process, cell=0, value=0):
-        if self.junk and kind == "step":
-            cell = self.rng.getrandbits(16)
-        if self.junk and kind != "write":
-            value = self.rng.getrandbits(32)
-        self.data.append(record(KIND_NUMBER[kind], process, cell, value))
-        made = qhs.Record(kind, process, cell, value)
-        _, self.state = program.play(self.state, self.mem, made)
+    def put(self, kind, process, *needed):
+        """A record of its kind's fields; the others are 0, or junk."""
+        others = [self.rng.getrandbits(8 * width) * self.junk for width in self.form.widths[2 + len(needed):]]
+        made = self.form.record(kind, process, *needed, *others)
+        fields = self.form.kinds.index(kind), *made[1:]
+        self.data.append(b"".join(field.to_bytes(width, "little") for field, width in zip(fields, self.form.widths)))
+        _, self.state = program.play(self.state, self.mem, made, self.player)
+
+    def begin(self, process, cell, writes):
+        """Some operation on a cell, a write as often as told."""
+        if self.rng.random() < writes:
+            self.put("write", process, cell, some_value(self.rng))
+        else:
+            self.put(self.rng.choice(("read", "asked")), process, cell)
 
     def stage(self, process):
         op = self.state.lanes[process].op
@@ -87,10 +95,10 @@ def some_value(rng):
                        0, 1, 2**32 - 1))
 
 
-def storm(rng, p, m, count, hot=None):
+def storm(rng, p, m, count, hot=None, make=Schedule):
     """Several processes on few cells, in bursts, each sleeping at some stage."""
-    run = Schedule(rng, p, m, some_value(rng), rng.choice((0, 0, 1, some_value(rng))),
-                   some_fill(rng, p))
+    run = make(rng, p, m, some_value(rng), rng.choice((0, 0, 1, some_value(rng))),
+               some_fill(rng, p))
     hot = hot or rng.choice((1, 1, 2, 3, 4, 8, 16))
     cells = [rng.randrange(m) for _ in range(hot)] if hot < m else list(range(m))
     writes = rng.choice((0.3, 0.6, 0.9))
@@ -105,9 +113,8 @@ def storm(rng, p, m, count, hot=None):
         if rng.random() < bad:
             bad_record(rng, run, q)
         elif run.stage(q) is None:
-            kind = "write" if rng.random() < writes else rng.choice(("read", "asked"))
-            pause[q] = rng.choice(PAUSES) if rng.random() < 0.7 else "swap"
-            run.put(kind, q, rng.choice(cells), some_value(rng))
+            pause[q] = rng.choice(run.pauses) if rng.random() < 0.7 else "swap"
+            run.begin(q, rng.choice(cells), writes)
         elif run.stage(q) == pause[q] and rng.random() < sleep:
             q = rng.randrange(p)
             if run.stage(q) == pause[q] and rng.random() < 0.3:
@@ -121,35 +128,34 @@ def bad_record(rng, run, q):
     """A record that is refused with 4, 5, 6 or 7, now or most often."""
     p, m = run.p, run.m
     process = rng.choice((q, q, p, p + 1, 16, 17, 255, min(q + 16, 255)))
-    kind = rng.choice(qhs.KINDS)
+    kind = rng.choice(run.form.kinds)
     cell = rng.choice((m, m, m + 1, m + 256, 65_535, rng.randrange(m), 0))
-    run.put(kind, process, cell, some_value(rng))
+    run.put(kind, process, cell, *(some_value(rng) for _ in run.form.widths[3:]))
 
 
-def one_by_one(rng, p, m, count):
+def one_by_one(rng, p, m, count, make=Schedule):
     """Whole writes of ever new cells, so that several segments are drawn."""
-    run = Schedule(rng, p, m, 7, 1, some_fill(rng, p))
+    run = make(rng, p, m, 7, 1, some_fill(rng, p))
     cells = rng.sample(range(m), m)
     while len(run) < count and cells:
         q = rng.randrange(p) if rng.random() < 0.3 else 0
         cell = cells.pop()
-        run.put("write", q, cell, some_value(rng))
+        run.begin(q, cell, 1)
         while run.stage(q):
             run.put("step", q)
         if rng.random() < 0.2:
-            run.put(rng.choice(("read", "asked")), q, rng.choice((cell, rng.randrange(m))))
+            run.begin(q, rng.choice((cell, rng.randrange(m))), 0)
             while run.stage(q):
                 run.put("step", q)
-    return run.bytes()[:qhs.HEADER + qhs.RECORD * count]
+    return run.bytes()[:qhs.HEADER + run.form.size * count]
 
 
-def races(rng, p, m):
+def races(rng, p, m, make=Schedule):
     """Cell after cell, all processes at once on the same fresh one."""
-    run = Schedule(rng, p, m, 7, rng.choice((0, 3)), some_fill(rng, p))
+    run = make(rng, p, m, 7, rng.choice((0, 3)), some_fill(rng, p))
     for cell in rng.sample(range(m), m):
         for q in range(p):
-            kind = rng.choice(("write",) * 6 + ("read", "asked"))
-            run.put(kind, q, cell if rng.random() < 0.9 else rng.randrange(m), some_value(rng))
+            run.begin(q, cell if rng.random() < 0.9 else rng.randrange(m), 0.75)
         pause = [rng.choice(("swap", "swap", "back", "mark", "take", "put")) for _ in range(p)]
         while any(run.stage(q) for q in range(p)):
             q = rng.randrange(p)
@@ -158,32 +164,32 @@ def races(rng, p, m):
     return run.bytes()
 
 
-def schedule(rng):
+def schedule(rng, make=Schedule):
     shape = rng.random()
     if shape < 0.20:
-        return races(rng, rng.choice((2, 2, 3, 4, 16)), rng.choice((1, 2, 3, 4, 7, 8, 12)))
+        return races(rng, rng.choice((2, 2, 3, 4, 16)), rng.choice((1, 2, 3, 4, 7, 8, 12)), make)
     if shape < 0.60:  # small
         return storm(rng, rng.choice((1, 2, 2, 3, 3, 4)), rng.choice((1, 2, 2, 3, 4, 8)),
-                     rng.randrange(10, 160))
+                     rng.randrange(10, 160), make=make)
     if shape < 0.75:  # crowded
         return storm(rng, rng.choice((5, 8, 16)), rng.choice((1, 2, 4, 9)),
-                     rng.randrange(40, 400))
+                     rng.randrange(40, 400), make=make)
     if shape < 0.90:  # many cells
         return one_by_one(rng, rng.choice((1, 1, 2, 16)), rng.choice((9, 16, 33, 64)),
-                          rng.randrange(60, 500))
+                          rng.randrange(60, 500), make)
     if shape < 0.98:  # extreme
         return storm(rng, rng.choice((1, 16)), rng.choice((1, 2, 2_039, 2_040)),
-                     rng.randrange(30, 300))
-    return storm(rng, rng.choice((2, 3)), rng.choice((2, 4)), rng.randrange(600, 1_500))
+                     rng.randrange(30, 300), make=make)
+    return storm(rng, rng.choice((2, 3)), rng.choice((2, 4)), rng.randrange(600, 1_500), make=make)
 
 
 # --- Damage --------------------------------------------------------------------
 
-def damage(rng, data):
+def damage(rng, data, form=qhs.SCHEDULE):
     """One fault in the file, perhaps a harmless one."""
     data = bytearray(data)
     shape = rng.randrange(8)
-    records = (len(data) - qhs.HEADER) // qhs.RECORD
+    records = (len(data) - qhs.HEADER) // form.size
     if shape == 0 and data:
         data[rng.randrange(len(data))] ^= 1 << rng.randrange(8)
     elif shape == 1 and data:
@@ -199,8 +205,8 @@ def damage(rng, data):
     elif shape == 6 and len(data) > 8:
         data[6:8] = struct.pack("<H", rng.choice((0, 2_041, 2_040, 4_096, 65_535)))
     elif records > 0:
-        at = rng.choice((records - 1, rng.randrange(records)))
-        data[qhs.HEADER + qhs.RECORD * at] = rng.choice((4, 4, 5, 128, 255, 3))
+        at, known = rng.choice((records - 1, rng.randrange(records))), len(form.kinds)
+        data[qhs.HEADER + form.size * at] = rng.choice((known, known, known + 1, 128, 255, known - 1))
     return bytes(data)
 
 
@@ -211,7 +217,7 @@ def cases():
     bad_kind = record(1) + record(4)
     longest = record(2, 0, 1, 9) + record(0) * 6 + record(1, 1, 1) + record(0, 1) * 8_181
     yield from (b"", b"Q", good[:23], good[:24], good, good[:30], good[:-1])
-    for mark in (b"qhs", b"QHT", b"QIS", b"RHS", b"\0\0\0"):
+    for mark in (b"qhs", b"QHT", b"QHC", b"QIS", b"RHS", b"\0\0\0"):
         yield header(mark=mark) + record(1)
     for version in (0, 2, 256, 257, 513, 65_535):
         yield header(version=version) + record(1)
@@ -252,14 +258,19 @@ def file_bytes(seed, index):
     """File number index of a seed."""
     if index < len(CASES):
         return CASES[index]
-    rng = random.Random(f"{seed} file {index}")
+    return random_file(random.Random(f"{seed} file {index}"), index, Schedule)
+
+
+def random_file(rng, index, make):
+    form = make.player.form
+    most = (qhs.LONGEST - qhs.HEADER) // form.size
     if index % 400 == 399:  # a longest file of a random schedule
-        return storm(rng, rng.choice((1, 2, 16)), rng.choice((4, 64, 2_040)), 8_189, hot=40)
+        return storm(rng, rng.choice((1, 2, 16)), rng.choice((4, 64, 2_040)), most, hot=40, make=make)
     if index % 400 == 199:
-        return one_by_one(rng, 1, 2_040, 8_189)
-    data = schedule(rng)
+        return one_by_one(rng, 1, 2_040, most, make)
+    data = schedule(rng, make)
     for _ in range(rng.choice((0, 0, 0, 0, 0, 0, 1, 1, 2))):
-        data = damage(rng, data)
+        data = damage(rng, data, form)
     return data
 
 

@@ -2,11 +2,13 @@
 
 Every call takes any state and any memory. It gives the answer and the state
 after it. A refusal gives back the state it was handed and stores no word.
+The second array (second.py) begins by `begun`, steps by `stepped`, and checks
+and marks by the rules here.
 """
 
-from state import (CLOSED, IDLE, LANES, MOST_CELLS, SEGMENTS, TOMBSTONE, Lane,
-                   Memories, Op, State, filled, lane_fits, lengths_fit, link_to,
-                   offset, place_of, process_of, segment, size, state_fits, with_lane)
+from state import (CLOSED, EITHER_ARRAY, FIRST_ARRAY, IDLE, LANES, MOST_CELLS, SEGMENTS,
+                   TOMBSTONE, Lane, Memories, Op, State, filled, lane_fits, lengths_fit,
+                   link_to, offset, place_of, process_of, segment, size, state_fits, with_lane)
 
 CHECK = ("link", "marks", "dir", "mark")  # (a) (b) (c) (d)
 OUTSIDE = (None, None)  # in place of a read's value and flag
@@ -34,28 +36,34 @@ def open_grid(p, m, first, step_, mem):
 
 
 def begin(state, process, kind, cell, value):
+    """A write begins with its store, a read or an asked with its check."""
+    op = Op(kind, "store", cell, value=value) if kind == "write" else Op(kind, "link", cell)
+    return begun(state, process, op, FIRST_ARRAY)
+
+
+def begun(state, process, op, whose):
     """Begin: 9 (state), 4, 6, 5. Not a step; touches no memory."""
-    if not state_fits(state):
+    if not state_fits(state, whose):
         return refused(9, state)
     if process >= state.p:
         return refused(4, state)
     lane = state.lanes[process]
     if lane.op is not None:
         return refused(6, state)
-    if cell >= state.m:
+    if op.cell >= state.m:
         return refused(5, state)
-    if kind == "write":
-        op = Op(kind, "store", cell, value=value)
-    else:
-        op = Op(kind, "link", cell)
     return ("begun",), with_lane(state, process, lane._replace(steps=0, op=op))
 
 
 # --- One step --------------------------------------------------------------
 
 def step(state, process, mem):
+    return stepped(state, process, mem, turn, FIRST_ARRAY)
+
+
+def stepped(state, process, mem, turn_of, whose):
     """Step: 9 (state), 8, 4, 7, 9 (word, draw or new number)."""
-    if not state_fits(state):
+    if not state_fits(state, whose):
         return refused(9, state)
     if not lengths_fit(state.p, state.m, mem):
         return refused(8, state)
@@ -65,17 +73,19 @@ def step(state, process, mem):
     if lane.op is None:
         return refused(7, state)
     try:
-        change, then = turn(state, process, lane.op, mem)
-        answer, after = state_after(state, process, change, then)
+        change, then = turn_of(state, process, lane.op, mem)
+        answer, after = state_after(state, process, change, then, whose)
     except Outside:
         return refused(9, state)
+    if change and change[0] == "pair":
+        _, index, mem.readings[index], mem.links[index] = change
     if change and change[0] in Memories._fields:
         name, index, stored_word = change
         getattr(mem, name)[index] = stored_word
     return answer, after
 
 
-def state_after(state, process, change, then):
+def state_after(state, process, change, then, whose):
     """The answer and the state after a turn. A new number outside is refused."""
     marks, drawn, steps, _ = state.lanes[process]
     top = state.top
@@ -87,7 +97,7 @@ def state_after(state, process, change, then):
         answer, lane = ("going",), Lane(marks, drawn, steps + 1, then)
     else:
         answer, lane = then + (steps + 1,), Lane(marks, drawn, 0, None)
-    if top > 4 * state.m + 2 * state.p or not lane_fits(lane, state.p, state.m):
+    if top > 4 * state.m + 2 * state.p or not lane_fits(lane, state.p, state.m, whose):
         raise Outside
     return answer, with_lane(state._replace(top=top), process, lane)
 
@@ -103,7 +113,9 @@ def turn(state, process, op, mem):
     if op.stage == "reading":
         # W5: a read that gets here reads a written cell; value and flag are of this step.
         return None, ("read", word(mem.readings, op.cell), 1)
-    return write_rule(state, process, op, mem)
+    if op.stage == "store":  # 1. Store the reading.
+        return ("readings", op.cell, op.value), Op("write", "link", op.cell)
+    return marking(state, process, op, mem)
 
 
 def check(state, op, mem):
@@ -136,26 +148,28 @@ def after_check(state, process, op, written):
         return ("read", filled(state, op.cell), 0)
     if written:
         return ("written",)
-    # 3. Let n be the lane's marks in force.
+    return rule_3(state, process, op)
+
+
+def rule_3(state, process, op):
+    """3. Let n be the lane's marks in force."""
     lane = state.lanes[process]
     n = lane.marks
     if segment(n) >= lane.drawn:
-        return Op("write", "take", op.cell, link=op.link, place=n)
+        return Op("marking", "take", op.cell, link=op.link, place=n)
     return rule_4(process, op, n)
 
 
 def rule_4(process, op, n):
     """4. The tombstone if the remembered link is exactly (this process, n)."""
     stage = "tomb" if op.link == link_to(process, n) else "put"
-    return Op("write", stage, op.cell, link=op.link, place=n)
+    return Op("marking", stage, op.cell, link=op.link, place=n)
 
 
-def write_rule(state, process, op, mem):
-    """Rules 1 and 3 to 8 of a write."""
+def marking(state, process, op, mem):
+    """Rules 3 to 8 of a write."""
     lane, place, s = state.lanes[process], op.place, segment(op.place)
-    here = Op("write", "put", op.cell, link=op.link, place=place)
-    if op.stage == "store":  # 1. Store the reading.
-        return ("readings", op.cell, op.value), Op("write", "link", op.cell)
+    here = Op("marking", "put", op.cell, link=op.link, place=place)
     if op.stage == "take":   # 3. Take the segment's size from the pool's top.
         then = op._replace(stage="note", start=state.top)
         return ("top", state.top + size(s), s + 1), then
@@ -197,8 +211,8 @@ def word(memory, index):
 # --- Hour summary ----------------------------------------------------------
 
 def hour_summary(state, hour, mem):
-    """Hour summary: 9 (state), 8, 10, 5, 9 (word), 18. Nothing changes."""
-    if not state_fits(state):
+    """Hour summary: 9 (state), 8, 10, 5, 9 (word), 18. Nothing changes. The state may be either array's."""
+    if not state_fits(state, EITHER_ARRAY):
         return refused(9, state)
     if not lengths_fit(state.p, state.m, mem):
         return refused(8, state)

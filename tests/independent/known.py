@@ -1,34 +1,41 @@
-"""01's examples 1 to 10 on the independent machine, with state and memory after each step where 01 tells them; and what
-02's W5 makes of a read's answer."""
+"""01's examples 1 to 10 on the independent machine, with state and memory after each step where 01 tells them; what
+02's W5 makes of a read's answer; and runs of W6's array, whose steps are counted by its step list."""
 
 import grid
 import planners
+import second
+from second import EMPTY, Hand
 from state import (TOMBSTONE, IDLE, LANES, Memories, State, filled, lengths, link_to, offset,
                    place_of, process_of, segment)
 
 
-def opened(p, m, fill, first=7, step=0):
+def opened(p, m, fill, first=7, step=0, array=grid):
     low = fill % 2**32
     mem = Memories(*([word] * n for word, n in zip((low, fill, low, low), lengths(p, m))))
-    answer, state = grid.open_grid(p, m, first, step, mem)
+    answer, state = array.open_grid(p, m, first, step, mem)
     assert answer == ("open", "ok")
     return state, mem
 
 
-def run(state, mem, q, count, stages=()):
+def run(state, mem, q, count, stages=(), array=grid):
     """Steps of a process; the stage each step finds is compared if told."""
     answer = None
     for at in range(count):
         if stages:
             assert state.lanes[q].op.stage == stages[at], (at, state.lanes[q].op)
-        answer, state = grid.step(state, q, mem)
+        answer, state = array.step(state, q, mem)
     return answer, state
 
 
-def begun(state, *call):
-    answer, state = grid.begin(state, *call)
+def begun(state, *call, array=grid):
+    answer, state = array.begin(state, *call)
     assert answer == ("begun",)
     return state
+
+
+def whole(state, mem, q, count, *call):
+    """An operation of the second array from its begin, with as many steps."""
+    return run(begun(state, q, *call, array=second), mem, q, count, array=second)
 
 
 def numbers():
@@ -129,6 +136,64 @@ def refusals():
     assert grid.hour_summary(state, 9, mem) == (("refused", 10), state)
 
 
+# --- The second array ----------------------------------------------------------
+
+MARKED = ("put", "force", "swap")
+
+
+def one_after_another():
+    """The mark comes before the operation: 9 steps with draw and tombstone, then 5. A read gives the reading alone."""
+    state, mem = opened(1, 1, 0, array=second)
+    assert whole(state, mem, 0, 2, "read", 0, 0, 0) == (("read", 7, 2), state)
+    state = begun(state, 0, "add", 0, 5, 99, array=second)
+    assert state.hands[0] == Hand("add", 5, 0, 0)
+    answer, state = run(state, mem, 0, 8, ("link", "marks", "take", "note", "tomb") + MARKED, second)
+    assert answer == ("going",) and (mem.readings, mem.links) == ([7], [link_to(0, 1)])
+    answer, state = run(state, mem, 0, 1, ("apply",), second)
+    assert answer == ("was", 7, 1, 9) and mem.readings == [12] and state.lanes[0] == (2, 1, 0, None)
+    answer, state = whole(state, mem, 0, 5, "swap", 0, 12, 40)
+    assert answer == ("was", 12, 1, 5) and state.hands == (Hand("swap", 12, 40, 12),) + (EMPTY,) * 15
+    assert whole(state, mem, 0, 5, "read", 0, 0, 0) == (("read", 40, 5), state)
+    answer, state = whole(state, mem, 0, 5, "swap", 0, 12, 41)
+    assert answer == ("was", 40, 0, 5) and mem.readings == [40]
+    answer, state = whole(state, mem, 0, 5, "store", 0, 2**32 - 1, 0)
+    answer, state = whole(state, mem, 0, 5, "add", 0, 3, 0)
+    assert answer == ("was", 2**32 - 1, 1, 5) and mem.readings == [2]
+
+
+def not_set_and_marked():
+    """A compare-and-swap that finds another reading still makes the cell written."""
+    state, mem = opened(1, 4, 2**64 - 1, array=second)
+    answer, state = whole(state, mem, 0, 7, "swap", 2, 8, 9)
+    assert answer == ("was", 7, 0, 7)
+    assert planners.text(state, mem, 100) == "quarter,load\r\n2,7\r\n"
+    assert grid.hour_summary(state, 0, mem)[0] == ("hour", 7, 7, 1)
+
+
+def nothing_lost():
+    """Example 9's race of two additions: the loser takes back at its step 10, and is applied at its step 11."""
+    state, mem = opened(2, 2, 0, array=second)
+    _, state = whole(state, mem, 0, 9, "add", 0, 5, 0)
+    _, state = whole(state, mem, 0, 8, "add", 1, 6, 0)
+    answer, state = whole(state, mem, 1, 10, "add", 1, 8, 0)
+    assert answer == ("was", 7, 1, 10)
+    answer, state = run(state, mem, 0, 3, ("swap", "back", "apply"), second)
+    assert answer == ("was", 15, 1, 11) and mem.readings == [12, 21]
+    assert [lane[:3] for lane in state.lanes[:2]] == [(2, 2, 0), (1, 1, 0)] and state.top == 8
+    assert mem.links == [link_to(0, 1), link_to(1, 0)] and state.hands[0] == Hand("add", 6, 0, 0)
+
+
+def other_array():
+    """An operation of the other array is refused with 9; at rest both are served."""
+    state, mem = opened(1, 4, 0, array=second)
+    alters = begun(state, 0, "add", 0, 5, 0, array=second)
+    first = State(*alters[:-1])
+    assert grid.step(first, 0, mem) == grid.begin(first, 1, "read", 9, 0) == (("refused", 9), first)
+    assert grid.hour_summary(first, 0, mem)[0] == ("refused", 10) and planners.text(first, mem, 100) == 10
+    asks = second.Second(*begun(State(*state[:-1]), 0, "asked", 0, 0), hands=state.hands)
+    assert second.step(asks, 0, mem) == second.begin(asks, 1, "add", 9, 1, 0) == (("refused", 9), asks)
+
+
 if __name__ == "__main__":
     numbers()
     examples_5_6()
@@ -137,4 +202,8 @@ if __name__ == "__main__":
     listing()
     zero_or_none()
     one_point()
-    print("01's examples 1 to 10 hold, and W5's reads")
+    one_after_another()
+    not_set_and_marked()
+    nothing_lost()
+    other_array()
+    print("01's examples 1 to 10 hold, W5's reads, and W6's runs")

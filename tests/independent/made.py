@@ -1,14 +1,18 @@
 """States and memories for call vectors: numbers at and around their limits, words of every kind."""
 
 from calls import STAGES, Lent
-from state import (IDLE, LANES, LINK_PLACE_HELD, OWNER_HELD, PLACE_HELD, SEGMENTS,
-                   TOMBSTONE, Lane, Memories, Op, State, lengths, link_to, offset,
-                   place_of, process_of, segment, size)
+from second import ACTS, Hand, Second
+from state import (EITHER_ARRAY, FIRST_ARRAY, IDLE, LANES, LINK_PLACE_HELD, OWNER_HELD, PLACE_HELD,
+                   SECOND_ARRAY, SEGMENTS, TOMBSTONE, Lane, Memories, Op, State, lengths, link_to,
+                   offset, place_of, process_of, segment, size)
 
 MOST_LENGTHS = lengths(16, 65_536)  # of the four memories in a vector
 BLOCK = 20  # vectors made from one random stream
 MOST_LINES = 110  # cells written for a planners' text
 REMEMBERS = ("take", "note", "tomb", "put", "force", "swap")  # hold the link of (a)
+# The stages that an array's operations have.
+STAGES_OF = {whose: [n for n, stage in enumerate(STAGES) if stage and stage[0] in whose]
+             for whose in (FIRST_ARRAY, SECOND_ARRAY, EITHER_ARRAY)}
 
 
 def u32(number):
@@ -59,9 +63,9 @@ def a_steps(rng):
     return rng.choice((0, 1, 2, 3, 4, 5, 6, 7, 8, 9, 9, 10, 10))
 
 
-def an_op(rng, p, m, q, marks, stage_number=None):
+def an_op(rng, p, m, q, marks, whose, stage_number=None):
     """An operation under way with its numbers in range: any stage, any data."""
-    kind, stage = STAGES[stage_number or rng.randrange(1, len(STAGES))]
+    kind, stage = STAGES[stage_number or rng.choice(STAGES_OF[whose])]
     cell = rng.choice((0, m - 1, rng.randrange(m)))
     op = Op(kind, stage, cell)
     if stage == "store":
@@ -71,7 +75,7 @@ def an_op(rng, p, m, q, marks, stage_number=None):
         place = a_place(rng, m, marks[owner])
         if stage == "marks" and rng.random() < 0.2:
             place = rng.choice((place + 2**32, 2**50 - 1, 2 * m + 2, 2**32 - 1))
-        if (kind, stage) == ("write", "marks") and rng.random() < 0.3:
+        if kind in ("write", "alter") and stage == "marks" and rng.random() < 0.3:
             owner, place = q, marks[q]  # a tombstone will be due
         op = op._replace(link=link_to(owner, place))
     if stage in LINK_PLACE_HELD:
@@ -91,8 +95,8 @@ def an_op(rng, p, m, q, marks, stage_number=None):
     return op
 
 
-def a_state(rng, p, m, busy=0.6, stage_number=None):
-    """A state with every number in its range. Process q gets the stage asked for."""
+def a_state(rng, p, m, busy=0.6, stage_number=None, whose=FIRST_ARRAY):
+    """A state with every number in its array's range. Process q gets the stage asked for."""
     q = rng.randrange(p)
     total = 4 * m + 2 * p
     marks = [rng.choice((0, 0, 1, 2, 3, 5, 6, 2 * m, 2 * m + 1, rng.randrange(2 * m + 2)))
@@ -102,7 +106,7 @@ def a_state(rng, p, m, busy=0.6, stage_number=None):
     for r in range(LANES):
         op = None
         if r < p and (r == q and stage_number or rng.random() < busy):
-            op = an_op(rng, p, m, r, marks, stage_number if r == q else None)
+            op = an_op(rng, p, m, r, marks, whose, stage_number if r == q else None)
         n = op.place if op and op.place else marks[r]
         enough = segment(n) + 1
         drawn = min(max(rng.choice((enough, enough, enough - 1, enough + 1, 0,
@@ -112,7 +116,7 @@ def a_state(rng, p, m, busy=0.6, stage_number=None):
         lanes[p:] = [IDLE] * (LANES - p)
     elif p < LANES:  # what no call looks at
         r = rng.randrange(p, LANES)
-        lanes[r] = Lane(2**32 - 1, 255, 255, an_op(rng, 16, 65_536, r, [9] * LANES))
+        lanes[r] = Lane(2**32 - 1, 255, 255, an_op(rng, 16, 65_536, r, [9] * LANES, EITHER_ARRAY))
     top = rng.choice((0, 2, rng.randrange(total + 1), total, total - 1))
     op = lanes[q].op
     if op and op.stage == "take":
@@ -120,6 +124,17 @@ def a_state(rng, p, m, busy=0.6, stage_number=None):
         top = min(max(top, 0), total)
     first, step = a_word(rng, m), rng.choice((0, 1, a_word(rng, m)))
     return State(p, m, u32(first), u32(step), top, tuple(lanes)), q
+
+
+def a_hand(rng, m):
+    act = rng.choice(ACTS)
+    return Hand(act, a_word(rng, m), a_word(rng, m) if act == "swap" else 0, a_word(rng, m))
+
+
+def a_second(rng, p, m, busy=0.6, stage_number=None):
+    """The same of the second array; lanes at rest have hands too."""
+    state, q = a_state(rng, p, m, busy, stage_number, SECOND_ARRAY)
+    return Second(*state, tuple(a_hand(rng, m) for _ in range(LANES))), q
 
 
 def memories(rng, p, m, state=None):
@@ -162,10 +177,22 @@ def aim(rng, state, q, mem):
         link = op.link
         mem.links[op.cell] = rng.choice((link, link, mem.links[op.cell], link ^ 2**50,
                                          link ^ 2**32, link ^ 1, link_to(q, op.place)))
+    if isinstance(state, Second):
+        aim_reading(rng, state.hands[q], op, mem)
     if op.stage in ("tomb", "put"):
         at = offset(op.place)
         mem.directory[SEGMENTS * q + segment(op.place)] = u32(rng.choice(
             (rng.randrange(pool), max(pool - 1 - at, 0), pool - at, 2**32 - at, 0)))
+
+
+def aim_reading(rng, hand, op, mem):
+    """Let the reading be the remembered one at the swap, the expected one at the apply, or nearly so."""
+    if op.stage == "swap":
+        mem.readings[op.cell] = rng.choice((hand.was,) * 5 + (hand.was ^ 2**31, hand.was ^ 1, hand.value))
+        if rng.random() < 0.4:
+            mem.links[op.cell] = op.link
+    if op.stage == "apply":
+        mem.readings[op.cell] = rng.choice((hand.value,) * 4 + (hand.was, hand.new, hand.value ^ 1, 2**32 - 1))
 
 
 def settle_cells(rng, state, hour, mem):

@@ -2,7 +2,7 @@
 
 from collections import namedtuple
 
-# by: what must tell it apart ("files", "planners", "rewrite", "calls", "lists", or several).
+# by: what must tell it apart, one or several: the names of tests/compare.py.
 # edits: (file, text, other text); each text stands exactly once in its file.
 Mutant = namedtuple("Mutant", "name by edits")
 
@@ -62,7 +62,7 @@ STEP_4 = """    if process >= state.p:
 BEGIN_6 = """    if lane.op is not None:
         return refused(6, state)
 """
-BEGIN_5 = """    if cell >= state.m:
+BEGIN_5 = """    if op.cell >= state.m:
         return refused(5, state)
 """
 HOUR_10 = """    if any(lane.op is not None for lane in state.lanes[:state.p]):
@@ -81,13 +81,13 @@ HOUR_18 = """    held = [value for value, written in found if written]
 FILE_16 = """    if len(data) > LONGEST:
         raise FileRefused(16)
 """
-FILE_11 = """    if len(data) < HEADER or data[0:3] != b"QHS":
+FILE_11 = """    if len(data) < HEADER or data[0:3] != form.mark:
         raise FileRefused(11)
 """
 FILE_13 = """    if header.m > MOST_CELLS:
         raise FileRefused(13)
 """
-FILE_14 = """    if (len(data) - HEADER) % RECORD != 0:
+FILE_14 = """    if (len(data) - HEADER) % form.size != 0:
         raise FileRefused(14)
 """
 TEXT_8 = """    if not lengths_fit(state.p, state.m, mem):

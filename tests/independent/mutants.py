@@ -1,5 +1,4 @@
-"""Tells every mutant of the independent program apart by the fixed files, the planners' files, the files to write again, the
-vectors or the vectors of calls on lists, or fails.
+"""Tells every mutant of the independent program apart by the fixed files or vectors of its kind, or fails.
 
     mutants.py [--jobs 2] [NAME...]     only mutants whose name holds NAME
 """
@@ -11,11 +10,13 @@ import pathlib
 import sys
 import tempfile
 import time
+from collections import namedtuple
 from itertools import zip_longest
 
 import calls
+import correction_files
+import corrections
 import files
-import list_vectors
 import planners
 import program
 import rounds
@@ -24,15 +25,10 @@ import vectors
 import writer
 from list_mutants import LIST_MUTANTS
 from mutant_list import MUTANTS
+from second_mutants import SECOND_MUTANTS
 
 HERE = pathlib.Path(__file__).resolve().parent
-SOURCES = ("state.py", "grid.py", "qhs.py", "program.py", "planners.py", "writer.py", "calls.py")
-# A mutant is first tried on this many; on all the fixed ones if none tells it apart.
-SOME_FILES, ALL_FILES = 300, 2_000
-SOME_SHEETS, ALL_SHEETS = 100, 600
-SOME_ROUNDS, ALL_ROUNDS = 100, 600
-SOME_VECTORS, ALL_VECTORS = 2_000, 20_000
-SOME_LISTS, ALL_LISTS = 200, 2_000
+SOURCES = ("state.py", "grid.py", "second.py", "qhs.py", "program.py", "planners.py", "corrections.py", "writer.py", "calls.py")
 
 sys.dont_write_bytecode = True
 
@@ -66,54 +62,64 @@ def loaded(folder, module):
         sys.modules.update(before)
 
 
-def told_by_file(theirs, data, expected):
-    """Does the mutant print another line, or break?"""
-    try:
-        return any(one != other for one, other in zip_longest(theirs.lines(data), expected))
-    except Exception:
-        return True
+# --- What a mutant is tried on --------------------------------------------------
+
+# What a module makes of an input, in parts that are compared one by one.
+
+def lines(module, data):
+    return module.lines(data)
 
 
-def told_by_output(theirs, data, expected):
-    try:
-        return theirs.output(data) != expected
-    except Exception:
-        return True
+def output(module, data):
+    return (module.output(data),)
 
 
-def told_by_vector(theirs, data, expected):
-    try:
-        return theirs.printed(theirs.unpack(data, 0)[0]) != expected
-    except Exception:
-        return True
+def text_output(module, data):
+    return (module.text_output(data),)
 
 
-# How a mutant is tried: the test, the module, and on how many first.
-TRIALS = {"files": (told_by_file, "program", SOME_FILES), "planners": (told_by_output, "planners", SOME_SHEETS),
-          "rewrite": (told_by_output, "writer", SOME_ROUNDS), "calls": (told_by_vector, "calls", SOME_VECTORS),
-          "lists": (told_by_vector, "calls", SOME_LISTS)}
+def printed(module, data):
+    return (module.printed(module.unpack(data, 0)[0]),)
+
+
+# The module, what is looked at, the inputs; on how many a mutant is first tried, and on how many if none of those
+# tells it apart.
+Trial = namedtuple("Trial", "module shown made some most")
+TRIALS = {"files": Trial(program, lines, files.file_bytes, 300, 2_000),
+          "planners": Trial(planners, output, sheets.file_bytes, 100, 600),
+          "rewrite": Trial(writer, output, rounds.file_bytes, 100, 600),
+          "corrections": Trial(corrections, lines, correction_files.file_bytes, 200, 1_000),
+          "corrected": Trial(corrections, text_output, correction_files.sheet_bytes, 100, 400),
+          "calls": Trial(calls, printed, None, 2_000, 20_000), "lists": Trial(calls, printed, None, 200, 2_000),
+          "second": Trial(calls, printed, None, 1_000, 10_000), "second-lists": Trial(calls, printed, None, 200, 1_000)}
 INPUTS = {}  # filled before the workers start
 
 
 def prepare():
-    made = [files.file_bytes(files.FIXED_SEED, index) for index in range(ALL_FILES)]
-    INPUTS["files"] = [(data, list(program.lines(data))) for data in made]
-    made = [sheets.file_bytes(files.FIXED_SEED, index) for index in range(ALL_SHEETS)]
-    INPUTS["planners"] = [(data, planners.output(data)) for data in made]
-    made = [rounds.file_bytes(files.FIXED_SEED, index) for index in range(ALL_ROUNDS)]
-    INPUTS["rewrite"] = [(data, writer.output(data)) for data in made]
-    for name, count, made in (("calls", ALL_VECTORS, vectors.block), ("lists", ALL_LISTS, list_vectors.block)):
-        packed = vectors.stream(vectors.FIXED_SEED, count, made)
-        INPUTS[name] = [(data, calls.printed(calls.unpack(data, 0)[0])) for data in packed]
+    """The fixed inputs of each trial, and what the program makes of them."""
+    for by, trial in TRIALS.items():
+        if trial.made is None:
+            made = vectors.stream(vectors.FIXED_SEED, trial.most, vectors.BLOCKS[by])
+        else:
+            made = (trial.made(files.FIXED_SEED, index) for index in range(trial.most))
+        INPUTS[by] = [(data, tuple(trial.shown(trial.module, data))) for data in made]
+
+
+def told(trial, theirs, data, expected):
+    """Does the mutant make something else of the input, or break?"""
+    try:
+        return any(one != other for one, other in zip_longest(trial.shown(theirs, data), expected))
+    except Exception:
+        return True
 
 
 def tried(task):
     """How many inputs tell a mutant apart, of how many."""
     mutant, by = task
-    told, module, some = TRIALS[by]
-    theirs = mutated(mutant, module)
-    for inputs in (INPUTS[by][:some], INPUTS[by]):
-        found = sum(told(theirs, data, expected) for data, expected in inputs)
+    trial = TRIALS[by]
+    theirs = mutated(mutant, trial.module.__name__)
+    for inputs in (INPUTS[by][:trial.some], INPUTS[by]):
+        found = sum(told(trial, theirs, data, expected) for data, expected in inputs)
         if found:
             break
     return mutant.name, by, found, len(inputs)
@@ -125,11 +131,10 @@ def main():
     parser.add_argument("names", nargs="*")
     options = parser.parse_args()
     start = time.monotonic()
-    chosen = [mutant for mutant in MUTANTS + LIST_MUTANTS
+    chosen = [mutant for mutant in MUTANTS + LIST_MUTANTS + SECOND_MUTANTS
               if not options.names or any(name in mutant.name for name in options.names)]
     prepare()
-    print(f"{ALL_FILES} files, {ALL_SHEETS} planners' files, {ALL_ROUNDS} to write again, {ALL_VECTORS} vectors and {ALL_LISTS} of calls "
-          f"on lists made, {time.monotonic() - start:.0f} s")
+    print(", ".join(f"{trial.most} of {by}" for by, trial in TRIALS.items()) + f" made, {time.monotonic() - start:.0f} s")
     tasks = [(mutant, by) for by in TRIALS for mutant in chosen if by in mutant.by]
     survivors = 0
     with multiprocessing.get_context("fork").Pool(options.jobs) as pool:

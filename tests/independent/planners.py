@@ -6,7 +6,7 @@ import sys
 import grid
 import program
 import qhs
-from state import lengths_fit, state_fits
+from state import EITHER_ARRAY, lengths_fit, state_fits
 
 HEADER = ("quarter", "load")
 LINE_END = "\r\n"
@@ -14,8 +14,8 @@ ROOM = 34_694  # bytes that the program lends: the header's line, and 2,040 line
 
 
 def text(state, mem, room):
-    """9 (state), 8, 10, 9 (word), 17. The text, or the refusal's number."""
-    if not state_fits(state):
+    """9 (state), 8, 10, 9 (word), 17. The text, or the refusal's number. The state may be either array's."""
+    if not state_fits(state, EITHER_ARRAY):
         return 9
     if not lengths_fit(state.p, state.m, mem):
         return 8
@@ -31,14 +31,14 @@ def text(state, mem, room):
     return lines
 
 
-def output(data, room=ROOM):
+def output(data, room=ROOM, player=program.SCHEDULES):
     """What the program prints for a file."""
     try:
-        state, mem, records = program.opened(data)
+        state, mem, records = program.opened(data, player)
     except qhs.FileRefused as refusal:
         return f"file refused {refusal.args[0]}\n"
     for record in records:
-        _, state = program.play(state, mem, record)
+        _, state = program.play(state, mem, record, player)
     found = text(state, mem, room)
     return found if isinstance(found, str) else f"refused {found}\n"
 

@@ -1,10 +1,15 @@
 """The schedule program: one file on standard input, 01's lines on standard output."""
 
 import sys
+from collections import namedtuple
 
 import grid
 import qhs
 from state import Memories, lengths
+
+# What a file is played on: its form, and the array of its records.
+Player = namedtuple("Player", "form array")
+SCHEDULES = Player(qhs.SCHEDULE, grid)
 
 
 def lent(header):
@@ -15,38 +20,39 @@ def lent(header):
     return Memories(*([fill] * n for fill, n in zip(fills, sizes)))
 
 
-def opened(data):
+def opened(data, player=SCHEDULES):
     """The state, the memories and the records of a file; else FileRefused."""
-    header, records = qhs.read_file(data)
+    header, records = qhs.read_file(data, player.form)
     mem = lent(header)
-    answer, state = grid.open_grid(header.p, header.m, header.first, header.step, mem)
+    answer, state = player.array.open_grid(header.p, header.m, header.first, header.step, mem)
     if answer[0] == "refused":
         raise qhs.FileRefused(answer[1])
     return state, mem, records
 
 
-def play(state, mem, record):
+def play(state, mem, record, player=SCHEDULES):
     """One record: a step, or the beginning of an operation."""
     if record.kind == "step":
-        return grid.step(state, record.process, mem)
-    return grid.begin(state, record.process, record.kind, record.cell, record.value)
+        return player.array.step(state, record.process, mem)
+    kind, process, *rest = record
+    return player.array.begin(state, process, kind, *rest)
 
 
-def lines(data):
+def lines(data, player=SCHEDULES):
     """The lines the program prints, one after the other."""
     try:
-        state, mem, records = opened(data)
+        state, mem, records = opened(data, player)
     except qhs.FileRefused as refusal:
         yield f"file refused {refusal.args[0]}"
         return
     yield f"processes {state.p} cells {state.m}"
     for count, record in enumerate(records):
-        answer, state = play(state, mem, record)
+        answer, state = play(state, mem, record, player)
         yield " ".join(map(str, (count,) + answer))
 
 
-def output(data):
-    return "".join(line + "\n" for line in lines(data))
+def output(data, player=SCHEDULES):
+    return "".join(line + "\n" for line in lines(data, player))
 
 
 if __name__ == "__main__":

@@ -1,38 +1,24 @@
 """Searches small grids exhaustively: every interleaving of a few operations is put in one order, or shown.
 
-    search.py            the grid must hold: no violation
-    search.py --teeth    each known mistake must be found
+    search.py [--second]            the array must hold: no violation
+    search.py [--second] --teeth    each known mistake must be found
 
 Checked at every step: some order of the operations gives every answer (demand
-2); no refusal; the step bounds 5, 4 and 11; the bound on words handed out.
+2); no refusal; the step bounds 5, 4 and 11; the bound on words handed out. At
+rest the cells hold what such an order leaves, so that no addition is lost.
 An operation begins just before its first step. Beginning earlier only
-leaves more orders.
+leaves more orders. --second searches the second array instead of 01's.
 """
 
 import argparse
-import itertools
 import sys
 import time
-from collections import namedtuple
 
-import grid
 from mutant_list import DRAW_AGAIN, FLAG_MISTAKES, NO_TOMBSTONE, SWAP_FIRST
 from mutants import mutated
-from state import TOMBSTONE, Memories, lengths, link_to
-
-FIRST = 70  # f(i) of every cell
-MOST_STEPS = {"read": 5, "asked": 4, "written": 11}
-ONES = 2**64 - 1
-
-# What each process does, one operation after the other: (kind, cell, value).
-R0, R1, A0, A1 = (("read", 0, 0), ("read", 1, 0), ("asked", 0, 0), ("asked", 1, 0))
-
-
-def w(cell, value):
-    return "write", cell, value
-
-
-Trial = namedtuple("Trial", "p m scripts links directory pool")
+from second_mutants import BREAKING
+from state import Memories, lengths
+from trials import FIRST, FIRST_ARRAY, SECOND_ARRAY, trials
 
 
 class Violation(Exception):
@@ -40,20 +26,15 @@ class Violation(Exception):
 
 
 # --- The array of demand 2 -------------------------------------------------------
-# A guess is (cells, pending): cells (value, written) each; pending holds for each
+# A guess is (cells, pending): what each cell holds; pending holds for each
 # process None, ("open", op), or ("placed", answer) once it has its place in the order.
 
-def placed(guess, q):
+def placed(array, guess, q):
     """The guess with process q's operation put next in the order."""
     cells, pending = guess
-    kind, cell, value = pending[q][1]
-    held, written = cells[cell]
-    if kind == "write":
-        cells = cells[:cell] + ((value, 1),) + cells[cell + 1:]
-        answer = ("written",)
-    else:
-        # W5: the array answers a read with value and flag of this one point.
-        answer = ("read", held, written) if kind == "read" else ("asked", written)
+    kind, cell, *values = pending[q][1]
+    held, answer = array.acted(cells[cell], kind, *values)
+    cells = cells[:cell] + (held,) + cells[cell + 1:]
     return cells, with_pending(pending, q, ("placed", answer))
 
 
@@ -61,7 +42,7 @@ def with_pending(pending, q, what):
     return pending[:q] + (what,) + pending[q + 1:]
 
 
-def closed(guesses):
+def closed(array, guesses):
     """All guesses reachable by placing operations under way."""
     found = set(guesses)
     todo = list(found)
@@ -69,7 +50,7 @@ def closed(guesses):
         guess = todo.pop()
         for q, what in enumerate(guess[1]):
             if what and what[0] == "open":
-                more = placed(guess, q)
+                more = placed(array, guess, q)
                 if more not in found:
                     found.add(more)
                     todo.append(more)
@@ -84,27 +65,27 @@ def after_end(guesses, q, answer):
 
 # --- The search --------------------------------------------------------------------
 
-def search(trial, machine=grid):
+def search(trial, array):
     """Number of different situations of a trial; raises Violation."""
     p, m = trial.p, trial.m
-    fills = [(0,) * m, trial.links, (trial.directory,) * lengths(p, m)[2], trial.pool]
-    _, opened = machine.open_grid(p, m, FIRST, 0, Memories(*fills))
-    cells = tuple((FIRST, 0) for _ in range(m))
-    start = (opened, Memories(*fills), (0,) * p, frozenset([(cells, (None,) * p)]), frozenset())
+    lent = Memories(trial.readings, trial.links, (trial.directory,) * lengths(p, m)[2], trial.pool)
+    _, opened = array.program.open_grid(p, m, FIRST, 0, lent)
+    start = (opened, lent, (0,) * p, frozenset([((array.at_first,) * m, (None,) * p)]), frozenset())
     seen, todo = {start}, [(start, ())]
     while todo:
         node, path = todo.pop()
         for q in range(p):
-            after = advance(trial, machine, node, q, path)
+            after = advance(trial, array, node, q, path)
             if after and after not in seen:
                 seen.add(after)
                 todo.append((after, (q, path)))
     return len(seen)
 
 
-def advance(trial, machine, node, q, path):
+def advance(trial, array, node, q, path):
     """Process q's next step, with the beginning of its next operation if idle."""
     state, fixed, done, guesses, begun = node
+    machine = array.program
     if state.lanes[q].op is None:
         if done[q] == len(trial.scripts[q]):
             return None
@@ -112,8 +93,8 @@ def advance(trial, machine, node, q, path):
         answer, state = machine.begin(state, q, *op)
         if answer != ("begun",):
             shown(trial, path, q, f"begin gave {answer}")
-        guesses = closed((c, with_pending(pending, q, ("open", op))) for c, pending in guesses)
-        if op[0] == "write":
+        guesses = closed(array, ((c, with_pending(pending, q, ("open", op))) for c, pending in guesses))
+        if op[0] not in ("read", "asked"):  # what counts as a write
             begun = begun | {("cell", op[1]), ("loader", q)}
     mem = Memories(*map(list, fixed))
     answer, state = machine.step(state, q, mem)
@@ -123,13 +104,23 @@ def advance(trial, machine, node, q, path):
         shown(trial, path, q, f"{state.top} words handed out")
     if answer[0] != "going":
         *said, count = answer
-        if count > MOST_STEPS[said[0]]:
+        if count > array.most_steps[said[0]]:
             shown(trial, path, q, f"{said[0]} took {count} steps")
         guesses = after_end(guesses, q, tuple(said))
         if not guesses:
             shown(trial, path, q, f"no order gives {answer}")
         done = done[:q] + (done[q] + 1,) + done[q + 1:]
+        look_at_rest(trial, array, state, mem, guesses, q, path)
     return state, Memories(*map(tuple, mem)), done, guesses, begun
+
+
+def look_at_rest(trial, array, state, mem, guesses, q, path):
+    """With no operation under way, what the cells hold is what some order leaves there."""
+    if any(lane.op is not None for lane in state.lanes[:trial.p]):
+        return
+    held = tuple(array.held(array.program, state, cell, mem) for cell in range(trial.m))
+    if all(cells != held for cells, _ in guesses):
+        shown(trial, path, q, f"no order leaves {held}")
 
 
 def shown(trial, path, q, what):
@@ -141,74 +132,27 @@ def shown(trial, path, q, what):
     raise Violation(f"process {q}: {what}\n    turns {schedule}\n    {trial}")
 
 
-# --- The trials --------------------------------------------------------------------
-
-SCRIPTS = (  # p 2, m 1 or 2: two or three operations
-    (1, ((w(0, 1),), (w(0, 2),))),
-    (1, ((w(0, 1),), (w(0, 2), R0))),
-    (1, ((w(0, 1),), (w(0, 2), A0))),
-    (1, ((w(0, 1),), (R0, R0))),
-    (1, ((w(0, 1),), (A0, R0))),
-    (1, ((w(0, 0),), (R0, R0))),      # a written 0
-    (1, ((w(0, FIRST),), (R0, R0))),  # a written f(i)
-    (1, ((w(0, 1), w(0, 3)), (w(0, 2),))),
-    (2, ((w(0, 1), w(1, 3)), (w(0, 2),))),
-    (2, ((w(0, 1), w(1, 3)), (R0, A1))),
-    (2, ((w(0, 1), R1), (w(1, 2), R0))),
-    (2, ((w(0, 1),), (w(1, 2), A0))),
-)
-DEEP = (  # four or five operations
-    (2, ((w(0, 1), w(1, 3)), (w(1, 2), R1))),
-    (2, ((w(0, 1), w(1, 3)), (w(0, 2), A0))),
-    (2, ((w(0, 1), w(1, 3)), (w(1, 4), w(0, 2)))),
-    (2, ((w(1, 1), w(0, 3)), (w(1, 2), w(0, 4), R0))),  # a mark put, not yet in force
-    (2, ((w(1, 1), w(0, 3)), (w(1, 2), A0, A0))),       # a question over a take-back
-)
-THREE = (  # p 3: the race of 004, section 4.1, and two loaders beside a question
-    (2, ((w(0, 1), w(1, 3)), (w(0, 2),), (R0, R0))),
-    (2, ((w(0, 1),), (w(1, 3),), (A0, R1))),
-    (1, ((w(0, 1),), (w(0, 2),), (A0, A0))),
-)
-
-
-def trials():
-    """Every script from every choice of old links; directory 0; old pool words all alike."""
-    old = (link_to(0, 0), link_to(0, 1), link_to(1, 0), link_to(1, 1), ONES)
-    for m, scripts in SCRIPTS:
-        for links in itertools.product(old, repeat=m):
-            for pool_word in (0, 1, TOMBSTONE):
-                yield Trial(2, m, scripts, links, 0, (pool_word,) * (4 * m + 4))
-    for m, scripts in DEEP:
-        for links in itertools.product((old[0], old[2], ONES), repeat=m):
-            for pool_word in (0, 1):
-                yield Trial(2, m, scripts, links, 0, (pool_word,) * (4 * m + 4))
-    for m, scripts in THREE:
-        for link in (old[0], old[2]):
-            yield Trial(3, m, scripts, (link,) * m, 0, (0,) * (4 * m + 6))
-
-
-def whole(machine=grid):
-    count = situations = 0
-    for trial in trials():
-        situations += search(trial, machine)
-        count += 1
-    return count, situations
+# Whether the second array is searched: the array, and its mistakes.
+SEARCHES = {False: (FIRST_ARRAY, (NO_TOMBSTONE, SWAP_FIRST, DRAW_AGAIN) + FLAG_MISTAKES), True: (SECOND_ARRAY, BREAKING)}
 
 
 def main():
     parser = argparse.ArgumentParser(description=__doc__.splitlines()[0])
+    parser.add_argument("--second", action="store_true")
     parser.add_argument("--teeth", action="store_true")
     options = parser.parse_args()
+    array, mistakes = SEARCHES[options.second]
     start = time.monotonic()
     if not options.teeth:
-        count, situations = whole()
-        print(f"{count} trials, {situations} situations, 0 violations, "
-              f"{time.monotonic() - start:.0f} s")
+        counts = [search(trial, array) for trial in trials(array)]
+        print(f"{len(counts)} trials, {sum(counts)} situations, 0 violations, {time.monotonic() - start:.0f} s")
         return
     missed = 0
-    for mutant in (NO_TOMBSTONE, SWAP_FIRST, DRAW_AGAIN) + FLAG_MISTAKES:
+    for mutant in mistakes:
+        mistaken = array._replace(program=mutated(mutant, array.program.__name__))
         try:
-            whole(mutated(mutant, "grid"))
+            for trial in trials(array):
+                search(trial, mistaken)
             missed += 1
             print(f"{mutant.name}: NOT FOUND")
         except Violation as violation:

@@ -11,32 +11,33 @@ import files
 import planners
 import program
 import qhs
+from coverage import shown
 from files import ONES, header, record
 
 FULL = 2**32 - 1
 FIRST = 7  # f(i) of every cell of a file made here
 
 
-def at_rest(data):
-    """The file with the steps that end its operations; unchanged if it is refused or would grow too long."""
+def at_rest(data, player=program.SCHEDULES):
+    """The file with the steps that end its operations, cut where it would grow too long; unchanged if it is refused."""
     try:
-        state, mem, records = program.opened(data)
+        state, mem, records = program.opened(data, player)
     except qhs.FileRefused:
         return data
     for made in records:
-        _, state = program.play(state, mem, made)
+        _, state = program.play(state, mem, made, player)
     for process in range(state.p):
         while state.lanes[process].op is not None:
-            data += record(0, process)
-            _, state = program.play(state, mem, qhs.Record("step", process, 0, 0))
-    return data if len(data) <= qhs.LONGEST else data[:qhs.LONGEST]
+            data += bytes((0, process)) + bytes(player.form.size - 2)
+            _, state = player.array.step(state, process, mem)
+    return data[:qhs.LONGEST - (qhs.LONGEST - qhs.HEADER) % player.form.size]
 
 
-def written(m, cells, value, fill=ONES):
+def written(m, cells, value, fill=ONES, make=files.Schedule, kind="write"):
     """A file in which process 0 writes the cells one after the other."""
-    run = files.Schedule(random.Random(m), 1, m, FIRST, 0, fill)
+    run = make(random.Random(m), 1, m, FIRST, 0, fill)
     for cell in cells:
-        run.put("write", 0, cell, value(cell))
+        run.put(kind, 0, cell, value(cell))
         while run.stage(0):
             run.put("step", 0)
     return run.bytes()
@@ -69,13 +70,13 @@ def file_bytes(seed, index):
     return at_rest(data) if index % 2 else data
 
 
-def kinds(data):
+def kinds(data, player=program.SCHEDULES):
     """What the output of a file shows."""
-    out = planners.output(data)
+    out = planners.output(data, player=player)
     if not out.startswith("quarter"):
         return [out.strip()]
     lines = out.split("\r\n")[1:-1]
-    head = qhs.read_file(data)[0]
+    head = qhs.read_file(data, player.form)[0]
     m, rows = head.m, [map(int, line.split(",")) for line in lines]
     found = ["empty" if not lines else "one cell" if len(lines) == 1 else "cells"]
     if len(lines) == m and m > 1:
@@ -99,11 +100,7 @@ def main():
     seen = Counter()
     for index in range(count):
         seen.update(kinds(file_bytes(files.FIXED_SEED, index)))
-    for name in EXPECTED:
-        print(f"{seen[name]:9} {name}")
-    missing = [name for name in EXPECTED if not seen[name]]
-    print(f"{count} files, {len(EXPECTED)} kinds of text, {len(missing)} missing {missing or ''}")
-    sys.exit(bool(missing))
+    sys.exit(shown(seen, EXPECTED, f"{count} files for the planners' text"))
 
 
 if __name__ == "__main__":

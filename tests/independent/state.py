@@ -13,13 +13,19 @@ State = namedtuple("State", "p m first step top lanes")
 Lane = namedtuple("Lane", "marks drawn steps op")  # op None: idle
 Memories = namedtuple("Memories", "readings links directory pool")
 
-# An operation under way. kind: read, asked, write. What a stage does not hold
-# is 0. stored: the tombstone has been stored already (take and note only).
+# An operation under way. kind: read, asked, write, alter, and marking: rules 3
+# to 8, of a write or an altering operation. What a stage does not hold is 0.
+# stored: the tombstone has been stored already (take and note only).
 Op = namedtuple("Op", "kind stage cell value link place start stored",
                 defaults=(0, 0, 0, 0, False))
 
 IDLE = Lane(0, 0, 0, None)
 CLOSED = State(0, 0, 0, 0, 0, (IDLE,) * LANES)  # what a refused open leaves
+
+# Whose operations a lane may hold: one of the other array is outside the range.
+FIRST_ARRAY = ("read", "asked", "write", "marking")
+SECOND_ARRAY = ("read", "alter", "marking")
+EITHER_ARRAY = ("read", "asked", "write", "alter", "marking")
 
 OWNER_HELD = ("marks", "dir", "mark")     # the link's process was let through (a)
 LINK_PLACE_HELD = ("dir", "mark")         # the link's place was let through (b)
@@ -67,24 +73,24 @@ def lengths_fit(p, m, mem):
     return tuple(len(memory) for memory in mem) == lengths(p, m)
 
 
-def state_fits(state):
-    """Is each number in its range? Lanes at or above p are not looked at."""
+def state_fits(state, whose):
+    """Is each number in its range, each operation one of the array's? Lanes at or above p are not looked at."""
     p, m = state.p, state.m
     if not 1 <= p <= LANES or not 1 <= m <= MOST_CELLS:
         return False
     if state.top > 4 * m + 2 * p:
         return False
-    return all(lane_fits(lane, p, m) for lane in state.lanes[:p])
+    return all(lane_fits(lane, p, m, whose) for lane in state.lanes[:p])
 
 
-def lane_fits(lane, p, m):
+def lane_fits(lane, p, m, whose):
     most = 2 * m + 1
     op = lane.op
     if lane.marks > most or lane.drawn > SEGMENTS:
         return False
     if op is None:
         return lane.steps == 0
-    if lane.steps > MOST_STEPS or op.cell >= m:
+    if op.kind not in whose or lane.steps > MOST_STEPS or op.cell >= m:
         return False
     if op.stage in OWNER_HELD and process_of(op.link) >= p:
         return False

@@ -1,7 +1,7 @@
 -- Open, begin and step: the refusals of each in document 01's order, and all that each call determines.
 -- Assumes nothing.
 use Prim.Native.Nat.{ℕ, _+_}
-use mathlib.Core.Bool.{Bool, false, not, _&&_}
+use mathlib.Core.Bool.{Bool, true, false, not, _&&_}
 use mathlib.Core.List.{List, [], _∷_}
 use lib.Dec.{leb, ltb, eqb}
 use lib.ListN.{length, set, replicate}
@@ -15,6 +15,8 @@ use Rattle.refusals.specs.declared.Refusal.the-variants as Refusal
 use Rattle.lanes.specs.declared.Check.the-variants as Check
 use Rattle.lanes.specs.declared.Op.{Op}
 use Rattle.lanes.specs.declared.Op.the-variants as Op
+use Rattle.lanes.specs.declared.Whose.{Whose}
+use Rattle.lanes.specs.declared.Whose.the-variants as Whose
 use Rattle.lanes.specs.declared.Lane.{Lane}
 use Rattle.lanes.specs.declared.State.{State}
 use Rattle.lanes.specs.Ranges.{rest, laneOf, marksOf, idle, laneFits, stateFits}
@@ -111,7 +113,7 @@ opOf (Ask.Write i v) = Op.Store i v
 opOf (Ask.Asked i) = Op.Asked i Check.Link
 
 abbrev pub beginOf : State → ℕ → Ask → Stepped
-beginOf s q a = steppedAs s q (begunOf (stateFits s) (s .terms) (s .top) q (laneOf s q) (cellOf a) (opOf a))
+beginOf s q a = steppedAs s q (begunOf (stateFits Whose.First s) (s .terms) (s .top) q (laneOf s q) (cellOf a) (opOf a))
 
 -- STEP: 9 (state), 8, 4, 7,
 abbrev pub stepRefusals : Bool → Terms → Memory → ℕ → Lane → List Rule
@@ -128,29 +130,31 @@ advance (Next.Going o) l = withOp l (l .steps + 1) o
 advance (Next.Read v b) l = withOp l 0 Op.Idle
 advance Next.Written l = withOp l 0 Op.Idle
 advance (Next.Asked b) l = withOp l 0 Op.Idle
+advance (Next.Found v) l = withOp l 0 Op.Idle
+advance (Next.Altered v b) l = withOp l 0 Op.Idle
 
-abbrev pub numbersFit : Terms → ℕ → Lane → Change → Next → Bool
-numbersFit z top l change next = leb (topAfter change top) (poolWords (z .p) (z .m)) && laneFits z (advance next (laneAfter change l))
+abbrev pub numbersFit : Whose → Terms → ℕ → Lane → Change → Next → Bool
+numbersFit w z top l change next = leb (topAfter change top) (poolWords (z .p) (z .m)) && laneFits w z (advance next (laneAfter change l))
 
-abbrev pub turnFits : Terms → ℕ → Lane → Turn → Bool
-turnFits z top l Turn.Outside = false
-turnFits z top l (Turn.Turned change next) = numbersFit z top l change next
+abbrev pub turnFits : Whose → Terms → ℕ → Lane → Turn → Bool
+turnFits w z top l Turn.Outside = false
+turnFits w z top l (Turn.Turned change next) = numbersFit w z top l change next
 
 -- then 9 (word, draw or new number): a word lies outside its memory, or a number of the state would leave its range.
-abbrev pub turnRefusals : Terms → ℕ → Lane → Turn → List Rule
-turnRefusals z top l t = not (turnFits z top l t) gives Refusal.OutOfRange ∷ []
+abbrev pub turnRefusals : Whose → Terms → ℕ → Lane → Turn → List Rule
+turnRefusals w z top l t = not (turnFits w z top l t) gives Refusal.OutOfRange ∷ []
 
 -- A turn that fits moves. (One outside never does.)
 abbrev pub moved : Turn → Verdict
 moved Turn.Outside = Verdict.Refused Refusal.OutOfRange
 moved (Turn.Turned change next) = Verdict.Moved change next
 
-abbrev pub decided : Terms → ℕ → Lane → Turn → Verdict
-decided z top l t = orders Verdict.Refused (turnRefusals z top l t) (moved t)
+abbrev pub decided : Whose → Terms → ℕ → Lane → Turn → Verdict
+decided w z top l t = orders Verdict.Refused (turnRefusals w z top l t) (moved t)
 
--- What a step comes to whose turn is t.
-unfoldable pub verdictOf : Bool → Terms → ℕ → ℕ → Lane → Memory → Turn → Verdict
-verdictOf fits z top q l mem t = orders Verdict.Refused (stepRefusals fits z mem q l) (decided z top l t)
+-- What a step comes to whose turn is t, of a lane that may hold such operations.
+unfoldable pub verdictOf : Whose → Bool → Terms → ℕ → ℕ → Lane → Memory → Turn → Verdict
+verdictOf w fits z top q l mem t = orders Verdict.Refused (stepRefusals fits z mem q l) (decided w z top l t)
 
 -- The answer says how many of its own steps a finished operation took.
 abbrev pub answerOf : ℕ → Next → Answer
@@ -158,6 +162,19 @@ answerOf steps (Next.Going o) = Answer.Going
 answerOf steps (Next.Read v b) = Answer.Read v b (steps + 1)
 answerOf steps Next.Written = Answer.Written (steps + 1)
 answerOf steps (Next.Asked b) = Answer.Asked b (steps + 1)
+answerOf steps (Next.Found v) = Answer.Found v (steps + 1)
+answerOf steps (Next.Altered v b) = Answer.Altered v b (steps + 1)
+
+-- Only a refusal changes nothing.
+abbrev pub changes : Answer → Bool
+changes Answer.Begun = true
+changes Answer.Going = true
+changes (Answer.Read v b n) = true
+changes (Answer.Written n) = true
+changes (Answer.Asked b n) = true
+changes (Answer.Found v n) = true
+changes (Answer.Altered v b n) = true
+changes (Answer.Refused r) = false
 
 -- What a step makes of its lane, the pool's top and the lent memories. A refusal changes none of them.
 pub record Effect : Type 0 where
@@ -174,8 +191,8 @@ effectOf l top mem (Verdict.Moved change next) =
     (record { lane = advance next (laneAfter change l); top = topAfter change top; answer = answerOf (l .steps) next })
     (memoryAfter change mem)
 
-abbrev pub actOf : Bool → Terms → ℕ → ℕ → Lane → Memory → Turn → Effect
-actOf fits z top q l mem t = effectOf l top mem (verdictOf fits z top q l mem t)
+abbrev pub actOf : Whose → Bool → Terms → ℕ → ℕ → Lane → Memory → Turn → Effect
+actOf w fits z top q l mem t = effectOf l top mem (verdictOf w fits z top q l mem t)
 
 -- All that a step determines: the state, the answer and the lent memories.
 pub record Outcome : Type 0 where
@@ -188,13 +205,13 @@ outcome r mem = record { stepped = r; memory = mem }
 abbrev pub outcomeAs : State → ℕ → Effect → Outcome
 outcomeAs s q e = outcome (steppedAs s q (e .acted)) (e .memory)
 
--- A step of process q whose turn is t,
-abbrev pub stepBy : State → ℕ → Memory → Turn → Outcome
-stepBy s q mem t = outcomeAs s q (actOf (stateFits s) (s .terms) (s .top) q (laneOf s q) mem t)
+-- A step of process q whose turn is t, of a grid whose lanes may hold such operations,
+abbrev pub stepBy : Whose → State → ℕ → Memory → Turn → Outcome
+stepBy w s q mem t = outcomeAs s q (actOf w (stateFits w s) (s .terms) (s .top) q (laneOf s q) mem t)
 
 -- and the turn is what the step list says.
 abbrev pub turnIn : State → ℕ → Memory → Turn
 turnIn s q mem = turnOf (s .terms) (s .top) q (laneOf s q) (marksOf s) mem
 
 abbrev pub stepOf : State → ℕ → Memory → Outcome
-stepOf s q mem = stepBy s q mem (turnIn s q mem)
+stepOf s q mem = stepBy Whose.First s q mem (turnIn s q mem)

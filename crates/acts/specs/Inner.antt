@@ -13,31 +13,21 @@ use Rattle.lanes.specs.declared.Check.{Check}
 use Rattle.lanes.specs.declared.Check.the-variants as Check
 use Rattle.lanes.specs.declared.Op.{Op}
 use Rattle.lanes.specs.declared.Op.the-variants as Op
+use Rattle.lanes.specs.declared.Whose.{Whose}
 use Rattle.lanes.specs.declared.Lane.{Lane}
 use Rattle.lanes.specs.Ranges.{laneFits, sizesFit}
 use Rattle.steps.specs.Memory.{Memory}
 use Rattle.steps.specs.Inner.{handed}
 use Rattle.steps.specs.Steps.{check, readTurn, askedTurn, checkedTurn, opTurn}
-use Rattle.acts.specs.declared.Answer.{Answer}
-use Rattle.acts.specs.declared.Answer.the-variants as Answer
 
 -- A process's lane; 0 where it has none.
 abbrev pub laneAt : ℕ → ℕ
 laneAt q = pick (ltb q mostProcesses) q 0
 
--- Only a refusal changes nothing.
-abbrev pub changes : Answer → Bool
-changes Answer.Begun = true
-changes Answer.Going = true
-changes (Answer.Read v b n) = true
-changes (Answer.Written n) = true
-changes (Answer.Asked b n) = true
-changes (Answer.Refused r) = false
-
 -- What the judge of a step is to know where the state fits.
-pub record Judged (fits : Bool) (z : Terms) (top q : ℕ) (l : Lane) (seen : ℕ) : Type 0 where
+pub record Judged (w : Whose) (fits : Bool) (z : Terms) (top q : ℕ) (l : Lane) (seen : ℕ) : Type 0 where
   pub sizes : fits ≡ true → sizesFit z top ≡ true
-  pub lane : fits ≡ true → q < z .p → laneFits z l ≡ true
+  pub lane : fits ≡ true → q < z .p → laneFits w z l ≡ true
   pub marks : fits ≡ true → q < z .p → seen ≤ mostMarks (z .m)
 
 -- The process whose marks in force the next step reads, in (b); 0 where it reads none. The code looks them up before the step,
@@ -56,6 +46,8 @@ named (Op.Asked i c) = namedIn c
 named (Op.Store i v) = 0
 named (Op.Write i c) = namedIn c
 named (Op.Marking i k) = 0
+named (Op.Alter i c) = namedIn c
+named (Op.Apply i) = 0
 
 -- A step reads no other marks in force: handed in or looked up, the turn is the same.
 pub handed-check : (z : Terms) (inForce : ℕ → ℕ) (links directory pool : List ℕ) (i : Cell) (c : Check)
@@ -75,3 +67,5 @@ module _ (z : Terms) (top q : ℕ) (l : Lane) (inForce : ℕ → ℕ) (mem : Mem
   handed-turn (Op.Store i v) = refl
   handed-turn (Op.Write i c) = ap (checkedTurn q l i) (handed-check z inForce (mem .links) (mem .directory) (mem .pool) i c)
   handed-turn (Op.Marking i k) = refl
+  handed-turn (Op.Alter i c) = refl
+  handed-turn (Op.Apply i) = refl

@@ -12,6 +12,7 @@ use borrow.Author.Tests.{ltb-true, ltb-false}
 use Rattle.numbers.specs.Numbers.{poolWords}
 use Rattle.logic.specs.Below.{below}
 use Rattle.logic.specs.BelowLaws.{below-all}
+use Rattle.lanes.specs.declared.Whose.{Whose}
 use Rattle.lanes.specs.declared.Lane.{Lane}
 use Rattle.lanes.specs.declared.State.{State}
 use Rattle.lanes.specs.Ranges.{rest, laneOf, laneFits, sizesFit, stateFits}
@@ -23,21 +24,21 @@ pub put-back : (s : State) (q : ℕ) → settled s q (laneOf s q) (s .top) ≡ s
 put-back s q = ap (λ (l : List Lane). record { terms = s .terms; top = s .top; lanes = l }) (set-getD (s .lanes) q rest)
 
 -- a new lane and a new top within their ranges keep the state in its own
-pub settled-fits : (s : State) (q : ℕ) (l : Lane) (t : ℕ) → stateFits s ≡ true → laneFits (s .terms) l ≡ true
+pub settled-fits : (w : Whose) (s : State) (q : ℕ) (l : Lane) (t : ℕ) → stateFits w s ≡ true → laneFits w (s .terms) l ≡ true
     → leb t (poolWords (s .terms .p) (s .terms .m)) ≡ true
-    → stateFits (settled s q l t) ≡ true
-settled-fits s q l t fine here top-low = rw (sizes, lanes)
+    → stateFits w (settled s q l t) ≡ true
+settled-fits w s q l t fine here top-low = rw (sizes, lanes)
   where
     sizes : sizesFit (s .terms) t ≡ true
-    sizes = other-top (s .terms) (s .top) t (sizes-of s fine) top-low
+    sizes = other-top (s .terms) (s .top) t (sizes-of w s fine) top-low
 
-    own : q < s .terms .p → (b : Bool) → ltb q (length (s .lanes)) ≡ b → laneFits (s .terms) (getD (set (s .lanes) q l) q rest) ≡ true
-    own k true h = ap (laneFits (s .terms)) (getD-set-same (s .lanes) q l rest (ltb-true _ _ h)) ∙ here
-    own k false h = ap (λ (x : List Lane). laneFits (s .terms) (getD x q rest)) (set-out (s .lanes) q l (ltb-false _ _ h)) ∙ lane-of s fine q k
+    own : q < s .terms .p → (b : Bool) → ltb q (length (s .lanes)) ≡ b → laneFits w (s .terms) (getD (set (s .lanes) q l) q rest) ≡ true
+    own k true h = ap (laneFits w (s .terms)) (getD-set-same (s .lanes) q l rest (ltb-true _ _ h)) ∙ here
+    own k false h = ap (λ (x : List Lane). laneFits w (s .terms) (getD x q rest)) (set-out (s .lanes) q l (ltb-false _ _ h)) ∙ lane-of w s fine q k
 
-    at : (r : ℕ) → r < s .terms .p → Dec (r ≡ q) → laneFits (s .terms) (laneOf (settled s q l t) r) ≡ true
+    at : (r : ℕ) → r < s .terms .p → Dec (r ≡ q) → laneFits w (s .terms) (laneOf (settled s q l t) r) ≡ true
     at r k (yes e) = rw e (own (rw (← e) k) (ltb q (length (s .lanes))) refl)
-    at r k (no e) = ap (laneFits (s .terms)) (getD-set-other (s .lanes) q r l rest e) ∙ lane-of s fine r k
+    at r k (no e) = ap (laneFits w (s .terms)) (getD-set-other (s .lanes) q r l rest e) ∙ lane-of w s fine r k
 
-    lanes : below (s .terms .p) (λ (r : ℕ). laneFits (s .terms) (laneOf (settled s q l t) r)) ≡ true
-    lanes = below-all (s .terms .p) (λ (r : ℕ). laneFits (s .terms) (laneOf (settled s q l t) r)) (λ r k. at r k (ℕ-discrete r q))
+    lanes : below (s .terms .p) (λ (r : ℕ). laneFits w (s .terms) (laneOf (settled s q l t) r)) ≡ true
+    lanes = below-all (s .terms .p) (λ (r : ℕ). laneFits w (s .terms) (laneOf (settled s q l t) r)) (λ r k. at r k (ℕ-discrete r q))

@@ -4,8 +4,8 @@ ghost use mathlib.Core.Bool.{true};
 ghost use Prim.Native.Nat.{_<_, _≤_};
 ghost use Rattle.numbers.specs.Numbers.{mostProcesses};
 ghost use Rattle.logic.specs.Pick.{pick};
-ghost use Rattle.acts.specs.Calls.{cellOf, opOf, begunOf};
-ghost use Rattle.acts.specs.Inner.{laneAt, changes};
+ghost use Rattle.acts.specs.Calls.{cellOf, opOf, begunOf, changes};
+ghost use Rattle.acts.specs.Inner.{laneAt};
 use super::Acted;
 use super::Answer;
 use super::Ask;
@@ -74,6 +74,8 @@ pub fn changes(a: Answer) -> bool
         Answer::Read(_, _, _) => true,
         Answer::Written(_) => true,
         Answer::Asked(_, _) => true,
+        Answer::Found(_, _) => true,
+        Answer::Altered(_, _, _) => true,
         Answer::Refused(_) => false,
     }
 }

@@ -24,6 +24,9 @@ pub enum Answer {
     Read(u32, bool, u8),
     Written(u8),
     Asked(bool, u8),
+    // of the second array: the value alone; the reading that was found, and whether it was set
+    Found(u32, u8),
+    Altered(u32, bool, u8),
     Refused(Refusal),
 }
 

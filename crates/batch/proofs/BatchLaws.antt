@@ -14,6 +14,7 @@ use borrow.Author.Tests.{lt-leb, le-leb, eq-eqb, ne-eqb}
 use Rattle.numbers.specs.declared.Cell.{Cell}
 use Rattle.logic.specs.Pick.{pick}
 use Rattle.lanes.specs.declared.Lane.{Lane}
+use Rattle.lanes.specs.declared.Whose.the-variants as Whose
 use Rattle.lanes.specs.declared.State.{State}
 use Rattle.lanes.specs.Ranges.{laneOf, stateFits}
 use Rattle.numbers.specs.declared.Terms.{Terms}
@@ -27,10 +28,13 @@ use Rattle.steps.specs.Memory.{Memory, memory}
 use Rattle.acts.specs.declared.Acted.{Acted}
 use Rattle.acts.specs.declared.Stepped.{Stepped}
 use Rattle.acts.specs.declared.Ask.the-variants as Ask
-use Rattle.acts.specs.Calls.{cellOf, opOf, Outcome, outcome, Effect, effect, steppedAs, begunOf, beginOf, actOf, verdictOf, stepOf}
-use Rattle.acts.specs.Inner.{laneAt, changes, named}
+use Rattle.acts.specs.declared.Ask.{Ask}
+use Rattle.acts.specs.declared.Answer.{Answer}
+use Rattle.acts.specs.Calls.{changes, cellOf, opOf, Outcome, Effect, effect, steppedAs, begunOf, actOf, verdictOf}
+use Rattle.acts.specs.Worlds.{Machine, grid, Call, begin, step, World, world, answerTo, worldAfter}
+use Rattle.acts.specs.Inner.{laneAt, named}
 use Rattle.acts.proofs.StateLaws.{begun-is, begun-kept, step-is, moved-kept}
-use Rattle.batch.specs.Batch.{beginning, askOf, entered, codeOf, answerOf, Batch, batch, entering, onward, after, answerAt}
+use Rattle.batch.specs.Batch.{beginning, askOf, callOf, callAt, codeOf, answerOf, Batch, batch, worldOf, answered, onward, after, answerAt}
 use Rattle.batch.specs.Batch.{Told, entries, batchOf, entryOf}
 use Rattle.batch.specs.Kept.{begin-keeps, step-keeps}
 
@@ -70,7 +74,7 @@ asked-cell kind i v = by (eqb kind 1) (eqb kind 2)
     by false false = refl
 
 -- an entry on the lane at k is the entry on the state
-module _ (s : State) (q k : ℕ) (at : k ≡ laneAt q) (j : ℕ) (from : j ≡ laneAt (named (laneOf s k .op))) (fits : Bool) (e : fits ≡ stateFits s)
+module _ (s : State) (q k : ℕ) (at : k ≡ laneAt q) (j : ℕ) (from : j ≡ laneAt (named (laneOf s k .op))) (fits : Bool) (e : fits ≡ stateFits Whose.First s)
     (mem mem′ : Memory) (kind : ℕ) (i : Cell) (v : ℕ) (b : Acted) where
   abbrev turn : Turn
   turn = turnOf (s .terms) (s .top) q (laneOf s k) (handed (laneOf s j .marks)) mem
@@ -80,74 +84,83 @@ module _ (s : State) (q k : ℕ) (at : k ≡ laneAt q) (j : ℕ) (from : j ≡ l
       effect b mem′
       ≡ pick w
       (effect (begunOf fits (s .terms) (s .top) q (laneOf s k) i (opOf (askOf kind i v))) mem)
-      (actOf fits (s .terms) (s .top) q (laneOf s k) mem turn)
+      (actOf Whose.First fits (s .terms) (s .top) q (laneOf s k) mem turn)
 
-  out-by : (w : Bool) → Entry w → outcome (steppedAs s k b) mem′ ≡ pick w (outcome (beginOf s q (askOf kind i v)) mem) (stepOf s q mem)
+  abbrev call : Bool → Call Ask (s .terms)
+  call w = pick w (begin q (askOf kind i v)) (step q)
+
+  out-by : (w : Bool) → Entry w
+      → (world (steppedAs s k b .state) mem′ ≡ worldAfter grid (world s mem) (call w)) × (b .answer ≡ answerTo grid (world s mem) (call w))
   out-by true f =
       let g = ap (λ (x : Effect). x .acted) f in
       let m : mem′ ≡ mem = ap (λ (x : Effect). x .memory) f in
-      rw (begun-is s q k at (laneOf s k) refl fits (askOf kind i v) i (opOf (askOf kind i v)) b e (asked-cell kind i v) refl g, m)
-  out-by false f = step-is s q k at (laneOf s k) refl j (laneOf s j) from refl fits mem mem′ b e f
+      let begun = begun-is s q k at (laneOf s k) refl fits (askOf kind i v) i (opOf (askOf kind i v)) b e (asked-cell kind i v) refl g in
+      (rw m (ap (λ (x : Stepped). world (x .state) mem) begun), ap (λ (x : Stepped). x .answer) begun)
+  out-by false f =
+      let took = step-is s q k at (laneOf s k) refl j (laneOf s j) from refl fits mem mem′ b e f in
+      (ap (λ (x : Outcome). world (x .stepped .state) (x .memory)) took, ap (λ (x : Outcome). x .stepped .answer) took)
 
-  pub entry-is : Entry (beginning kind) → outcome (steppedAs s k b) mem′ ≡ entered s mem kind q i v
-  entry-is f = out-by (beginning kind) f
+  pub entry-leaves : Entry (beginning kind) → world (steppedAs s k b .state) mem′ ≡ worldAfter grid (world s mem) (callOf {z = s .terms} kind q i v)
+  entry-leaves f = out-by (beginning kind) f .0
+
+  pub entry-answers : Entry (beginning kind) → b .answer ≡ answerTo grid (world s mem) (callOf {z = s .terms} kind q i v)
+  entry-answers f = out-by (beginning kind) f .1
 
   -- an entry that is refused leaves the state as it is
   kept-by : (w : Bool) → Entry w → changes (b .answer) ≡ false → s ≡ steppedAs s k b .state
   kept-by true f h =
       ap (λ (x : Stepped). x .state)
-      (begun-kept s q k at (laneOf s k) refl fits i (opOf (askOf kind i v)) b (ap (λ (x : Effect). x .acted) f) h)
+      (begun-kept Whose.First s q k at (laneOf s k) refl fits i (opOf (askOf kind i v)) b (ap (λ (x : Effect). x .acted) f) h)
   kept-by false f h =
       ap (λ (x : Stepped). x .state)
-      (moved-kept s q k at (laneOf s k) refl (verdictOf fits (s .terms) (s .top) q (laneOf s k) mem turn) mem mem′ b f h)
+      (moved-kept Whose.First s q k at (laneOf s k) refl (verdictOf Whose.First fits (s .terms) (s .top) q (laneOf s k) mem turn) mem mem′ b f h)
 
   entry-kept : Entry (beginning kind) → (r : Bool) → r ≡ changes (b .answer) → r ≡ false → s ≡ steppedAs s k b .state
   entry-kept f r g h = kept-by (beginning kind) f (sym g ∙ h)
 
 -- an entry keeps a state in its ranges there
-pub entered-keeps : (s : State) (mem : Memory) (kind q : ℕ) (i : Cell) (v : ℕ) → stateFits (entered s mem kind q i v .stepped .state) ≡ stateFits s
-entered-keeps s mem kind q i v = by (beginning kind)
+call-keeps : {z : Terms} (w : World State) (kind q : ℕ) (i : Cell) (v : ℕ)
+    → stateFits Whose.First (worldAfter grid w (callOf {z = z} kind q i v) .state) ≡ stateFits Whose.First (w .state)
+call-keeps {z} w kind q i v = by (beginning kind)
   where
-    by : (w : Bool) → stateFits (pick w (outcome (beginOf s q (askOf kind i v)) mem) (stepOf s q mem) .stepped .state) ≡ stateFits s
-    by true = begin-keeps s q (askOf kind i v)
-    by false = step-keeps s q mem
+    abbrev call : Bool → Call Ask z
+    call b = pick b (begin q (askOf kind i v)) (step q)
 
--- the loop: the first i entries are done
-module _ (kinds processes cells values : List ℕ) (s : State) (mem : Memory) (answers : List ℕ) where
-  abbrev pub Done : ℕ → Batch → Type 0
-  Done i b = b ≡ after kinds processes cells values (batch s mem answers) i
+    by : (b : Bool) → stateFits Whose.First (worldAfter grid w (call b) .state) ≡ stateFits Whose.First (w .state)
+    by true = begin-keeps (w .state) q (askOf kind i v)
+    by false = step-keeps (w .state) q (w .memory)
+
+-- the loop over the calls of a list, on any machine: the first i are done
+module _ {S A : Type 0} {z : Terms} (M : Machine S A) (call : ℕ → Call A z) (s : S) (mem : Memory) (answers : List ℕ) where
+  abbrev pub Done : ℕ → Batch S → Type 0
+  Done i b = b ≡ after M call (batch s mem answers) i
 
   pub done-none : Done 0 (batch s mem answers)
   unfolding after
   done-none = refl
 
-  pub done-more : (i : ℕ) (t : State) (mem₁ mem₂ : Memory) (answers₁ : List ℕ) (k q kind v code : ℕ) (c : Cell) (b : Acted)
-      → Done i (batch t mem₁ answers₁) → q ≡ getD processes i 0 → kind ≡ getD kinds i 0 → c ≡ record { 0 = getD cells i 0 } → v ≡ getD values i 0
-      → outcome (steppedAs t k b) mem₂ ≡ entered t mem₁ kind q c v → code ≡ codeOf (b .answer)
-      → Done (i + 1) (batch (steppedAs t k b .state) mem₂ (set answers₁ i code))
+  pub done-more : (i : ℕ) (t t′ : S) (mem₁ mem₂ : Memory) (answers₁ : List ℕ) (code : ℕ) (x : Answer) → Done i (batch t mem₁ answers₁)
+      → world t′ mem₂ ≡ worldAfter M (world t mem₁) (call i) → x ≡ answerTo M (world t mem₁) (call i) → code ≡ codeOf x
+      → Done (i + 1) (batch t′ mem₂ (set answers₁ i code))
   unfolding after
-  done-more i t mem₁ mem₂ answers₁ k q kind v code c b h eq ek ec ev out f =
+  done-more i t t′ mem₁ mem₂ answers₁ code x h left said is =
       rw (add-one i)
-      (ap (λ (x : ℕ). batch (steppedAs t k b .state) mem₂ (set answers₁ i x)) f
-      ∙ ap (λ (x : Outcome). batch (x .stepped .state) (x .memory) (set answers₁ i (codeOf (x .stepped .answer)))) out′
-      ∙ ap (λ (x : Batch). onward kinds processes cells values x i) h)
-    where
-      out′ : outcome (steppedAs t k b) mem₂ ≡ entered t mem₁ (getD kinds i 0) (getD processes i 0) (record { 0 = getD cells i 0 }) (getD values i 0)
-      out′ = out ∙ rw (ek, eq, ec, ev)
+      (ap (λ (w : World S). answered M call w answers₁ i code) left
+      ∙ ap (answered M call (worldAfter M (world t mem₁) (call i)) answers₁ i) (is ∙ ap codeOf said)
+      ∙ ap (λ (b : Batch S). onward M call b i) h)
 
   -- the answers so far come back from their words
   abbrev pub Back : ℕ → List ℕ → Type 0
-  Back = Told kinds processes cells values (batch s mem answers)
+  Back = Told M call (batch s mem answers)
 
   pub back-none : Back 0 answers
   back-none k h = absurd (let y : ⊥ = omega arith in y)
 
-  pub back-more : (i code : ℕ) (words : List ℕ) → i < length words → Back i words
-      → answerOf code ≡ answerAt kinds processes cells values (batch s mem answers) i
+  pub back-more : (i code : ℕ) (words : List ℕ) → i < length words → Back i words → answerOf code ≡ answerAt M call (batch s mem answers) i
       → Back (i + 1) (set words i code)
   back-more i code words low h e k here = by (ℕ-discrete k i)
     where
-      by : Dec (k ≡ i) → answerOf (getD (set words i code) k 0) ≡ answerAt kinds processes cells values (batch s mem answers) k
+      by : Dec (k ≡ i) → answerOf (getD (set words i code) k 0) ≡ answerAt M call (batch s mem answers) k
       by (yes x) = rw x (ap answerOf (getD-set-same words i code 0 low) ∙ e)
       by (no x) = ap answerOf (getD-set-other words i k code 0 x) ∙ h k (omega (arith, here, x))
 
@@ -174,13 +187,16 @@ pub record Going (kinds₀ processes₀ cells₀ values₀ answers₀ readings�
   pub same-directory : length directory ≡ length directory₀
   pub same-pool : length pool ≡ length pool₀
   pub terms : t .terms ≡ s .terms
-  pub fine : fits ≡ stateFits t
-  pub done : Done kinds₀ processes₀ cells₀ values₀ s (memory readings₀ links₀ directory₀ pool₀) answers₀ i
+  pub fine : fits ≡ stateFits Whose.First t
+  pub done : Done grid (callAt (s .terms) kinds₀ processes₀ cells₀ values₀) s (memory readings₀ links₀ directory₀ pool₀) answers₀ i
       (batch t (memory readings links directory pool) answers)
-  pub back : Back kinds₀ processes₀ cells₀ values₀ s (memory readings₀ links₀ directory₀ pool₀) answers₀ i answers
+  pub back : Back grid (callAt (s .terms) kinds₀ processes₀ cells₀ values₀) s (memory readings₀ links₀ directory₀ pool₀) answers₀ i answers
 
 module _ (kinds processes cells values answers₀ readings₀ links₀ directory₀ pool₀ : List ℕ) (s : State) (fits : Bool) (n : ℕ) where
-  pub going-start : n ≡ entries kinds processes cells values answers₀ → fits ≡ stateFits s
+  abbrev calls : ℕ → Call Ask (s .terms)
+  calls = callAt (s .terms) kinds processes cells values
+
+  pub going-start : n ≡ entries kinds processes cells values answers₀ → fits ≡ stateFits Whose.First s
       → Going kinds processes cells values answers₀ readings₀ links₀ directory₀ pool₀ s fits n answers₀ readings₀ links₀ directory₀ pool₀ s 0
   going-start e f = record {
     at = omega arith;
@@ -193,8 +209,8 @@ module _ (kinds processes cells values answers₀ readings₀ links₀ directory
     same-pool = refl;
     terms = refl;
     fine = f;
-    done = done-none kinds processes cells values s (memory readings₀ links₀ directory₀ pool₀) answers₀;
-    back = back-none kinds processes cells values s (memory readings₀ links₀ directory₀ pool₀) answers₀;
+    done = done-none grid calls s (memory readings₀ links₀ directory₀ pool₀) answers₀;
+    back = back-none grid calls s (memory readings₀ links₀ directory₀ pool₀) answers₀;
   }
 
   module _ (answers readings links directory pool : List ℕ) (t : State) (i : ℕ)
@@ -229,22 +245,33 @@ module _ (kinds processes cells values answers₀ readings₀ links₀ directory
       fine =
           G .fine
           ∙ sym
-          (ap (λ (x : Outcome). stateFits (x .stepped .state)) out
-          ∙ entered-keeps t (memory readings links directory pool) (getD kinds i 0) (getD processes i 0) (record { 0 = getD cells i 0 }) (getD values i 0));
-      done = done-more kinds processes cells values s (memory readings₀ links₀ directory₀ pool₀) answers₀ i t (memory readings links directory pool)
-          (memory readings′ links′ directory′ pool′) answers k (getD processes i 0) (getD kinds i 0) (getD values i 0) code (record { 0 = getD cells i 0 }) b
-          (G .done) refl refl refl refl out (g .0);
-      back = back-more kinds processes cells values s (memory readings₀ links₀ directory₀ pool₀) answers₀ i code answers
-          (let a = G .few .in-answers in let b = G .same-answers in omega arith) (G .back) (g .1 ∙ given);
+          (ap (λ (x : World State). stateFits Whose.First (x .state)) left
+          ∙ call-keeps {z = s .terms} (world t (memory readings links directory pool)) (getD kinds i 0) (getD processes i 0) (record { 0 = getD cells i 0 })
+          (getD values i 0));
+      done =
+          done-more grid calls s (memory readings₀ links₀ directory₀ pool₀) answers₀ i t (steppedAs t k b .state) (memory readings links directory pool)
+          (memory readings′ links′ directory′ pool′) answers code (b .answer) (G .done) left said (g .0);
+      back =
+          back-more grid calls s (memory readings₀ links₀ directory₀ pool₀) answers₀ i code answers
+          (let a = G .few .in-answers in let b = G .same-answers in omega arith) (G .back)
+          (g .1 ∙ said ∙ ap (λ (x : Batch State). answerTo grid (worldOf x) (calls i)) (G .done));
     })
       where
-        out : outcome (steppedAs t k b) (memory readings′ links′ directory′ pool′)
-            ≡ entered t (memory readings links directory pool) (getD kinds i 0) (getD processes i 0) (record { 0 = getD cells i 0 }) (getD values i 0)
-        out = entry-is t (getD processes i 0) k at j from fits (G .fine) (memory readings links directory pool) (memory readings′ links′ directory′ pool′)
-            (getD kinds i 0) (record { 0 = getD cells i 0 }) (getD values i 0) b (own-terms k j b readings′ links′ directory′ pool′ f)
+        abbrev entry : effect b (memory readings′ links′ directory′ pool′)
+            ≡ entryOf fits (t .terms) (t .top) (getD processes i 0) (laneOf t k) (laneOf t j .marks) (getD kinds i 0)
+            (record { 0 = getD cells i 0 }) (getD values i 0) (memory readings links directory pool)
+        entry = own-terms k j b readings′ links′ directory′ pool′ f
 
-        given : b .answer ≡ answerAt kinds processes cells values (batch s (memory readings₀ links₀ directory₀ pool₀) answers₀) i
-        given = ap (λ (x : Outcome). x .stepped .answer) out ∙ ap (λ (x : Batch). entering kinds processes cells values x i .stepped .answer) (G .done)
+        left : world (steppedAs t k b .state) (memory readings′ links′ directory′ pool′)
+            ≡ worldAfter grid (world t (memory readings links directory pool)) (calls i)
+        left = rw (← G .terms)
+            (entry-leaves t (getD processes i 0) k at j from fits (G .fine) (memory readings links directory pool) (memory readings′ links′ directory′ pool′)
+            (getD kinds i 0) (record { 0 = getD cells i 0 }) (getD values i 0) b entry)
+
+        said : b .answer ≡ answerTo grid (world t (memory readings links directory pool)) (calls i)
+        said = rw (← G .terms)
+            (entry-answers t (getD processes i 0) k at j from fits (G .fine) (memory readings links directory pool) (memory readings′ links′ directory′ pool′)
+            (getD kinds i 0) (record { 0 = getD cells i 0 }) (getD values i 0) b entry)
 
     -- a refused entry: the state stays
     pub going-kept : (answers′ readings′ links′ directory′ pool′ : List ℕ) (k j code : ℕ) (b : Acted) (r : Bool) → r ≡ changes (b .answer) → r ≡ false → i < n
@@ -261,11 +288,11 @@ module _ (kinds processes cells values answers₀ readings₀ links₀ directory
 
     pub going-end : n ≤ i
         → (batch t (memory readings links directory pool) answers ≡ batchOf s (memory readings₀ links₀ directory₀ pool₀) answers₀ kinds processes cells values)
-        × Back kinds processes cells values s (memory readings₀ links₀ directory₀ pool₀) answers₀ (entries kinds processes cells values answers₀) answers
+        × Back grid calls s (memory readings₀ links₀ directory₀ pool₀) answers₀ (entries kinds processes cells values answers₀) answers
     unfolding batchOf
     going-end h =
         let e : i ≡ entries kinds processes cells values answers₀ = let a = G .at in let b = G .number in omega arith in
-        (G .done ∙ ap (after kinds processes cells values (batch s (memory readings₀ links₀ directory₀ pool₀) answers₀)) e, rw (← e) (G .back))
+        (G .done ∙ ap (after grid calls (batch s (memory readings₀ links₀ directory₀ pool₀) answers₀)) e, rw (← e) (G .back))
 
 pub entries-are : (kinds processes cells values answers : List ℕ) (a b c n : ℕ) → a ≡ min (length kinds) (length processes)
     → b ≡ min (length cells) (length values) → c ≡ min a b → n ≡ min c (length answers) → n ≡ entries kinds processes cells values answers

@@ -19,6 +19,8 @@ stepsOf Answer.Going = 0
 stepsOf (Answer.Read v b n) = n
 stepsOf (Answer.Written n) = n
 stepsOf (Answer.Asked b n) = n
+stepsOf (Answer.Found v n) = n
+stepsOf (Answer.Altered v b n) = n
 stepsOf (Answer.Refused r) = 0
 
 pub number-few : (r : Refusal) → numberOf r < 256
@@ -58,4 +60,6 @@ answer-back Answer.Going h = plain-back 1 0 0 (omega arith) (omega arith)
 answer-back (Answer.Read v b n) h = parts-back 2 n (bit b) v (omega arith) h (bit-few b) ∙ rw (bit-back b)
 answer-back (Answer.Written n) h = plain-back 3 n 0 (omega arith) h
 answer-back (Answer.Asked b n) h = plain-back 4 n (bit b) (omega arith) h ∙ rw (bit-back b)
+answer-back (Answer.Found v n) h = plain-back 6 n v (omega arith) h
+answer-back (Answer.Altered v b n) h = parts-back 7 n (bit b) v (omega arith) h (bit-few b) ∙ rw (bit-back b)
 answer-back (Answer.Refused r) h = plain-back 5 (numberOf r) 0 (omega arith) (number-few r) ∙ rw (refusal-back r)

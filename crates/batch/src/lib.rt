@@ -5,7 +5,8 @@ ghost use Rattle.lanes.specs.Ranges.{stateFits};
 ghost use Rattle.steps.specs.Memory.{memory};
 ghost use Rattle.acts.specs.Calls.{opOf, effect};
 ghost use Rattle.acts.specs.Inner.{Judged};
-ghost use Rattle.batch.specs.Batch.{bit, countOf, codeWith, codeOf, answerOf, beginning, askOf, entryOf, batch, entries, batchOf, Told};
+ghost use Rattle.batch.specs.Batch.{bit, countOf, codeWith, codeOf, answerOf, beginning, askOf, callAt, entryOf, batch, entries, batchOf, Told};
+ghost use Rattle.acts.specs.Worlds.{grid};
 use acts::Acted;
 use acts::Answer;
 use acts::begins;
@@ -13,20 +14,21 @@ use lanes::Check;
 use lanes::Lane;
 use lanes::Op;
 use lanes::State;
+use lanes::Whose;
 use numbers::Cell;
 use numbers::Mark;
 use numbers::Process;
 use numbers::Terms;
 
 fn state_fits(s: State) -> bool
-    ensures { λ r. ⌜ r ≡ stateFits s ⌝ }
+    ensures { λ r. ⌜ r ≡ stateFits Whose.First s ⌝ }
 {
     let z = s.terms;
     let mut fits = lanes::sizes_fit(z, s.top);
     let end = begins::lanes_below(fits, z.p);
     let mut i: usize = 0;
     while i < end {
-        fits = logic::both(fits, lanes::lane_fits(z, s.lanes[i]));
+        fits = logic::both(fits, lanes::lane_fits(Whose::First, z, s.lanes[i]));
         i = i + 1;
     }
     fits
@@ -52,7 +54,8 @@ fn count_of(b: bool, n: u8) -> u32
     if b { 256 + n as u32 } else { n as u32 }
 }
 
-fn code_of(a: Answer) -> u64
+// An answer as a word.
+pub fn code_of(a: Answer) -> u64
     ensures { λ r. ⌜ r ≡ codeOf a ⌝ }
     ensures { λ r. ⌜ answerOf r ≡ a ⌝ }
 {
@@ -63,6 +66,8 @@ fn code_of(a: Answer) -> u64
         Answer::Written(n) => code(3, n as u32, 0),
         Answer::Asked(b, n) => code(4, n as u32, bit(b)),
         Answer::Refused(r) => code(5, refusals::number(r), 0),
+        Answer::Found(v, n) => code(6, n as u32, v),
+        Answer::Altered(v, b, n) => code(7, count_of(b, n), v),
     }
 }
 
@@ -79,6 +84,8 @@ pub fn answer_of(w: u64) -> Answer
         2 => Answer::Read(value, flag == 1, count),
         3 => Answer::Written(count),
         4 => Answer::Asked(value == 1, count),
+        6 => Answer::Found(value, count),
+        7 => Answer::Altered(value, flag == 1, count),
         _ => Answer::Refused(refusals::of_number(count as u32)),
     }
 }
@@ -118,7 +125,7 @@ fn entry(
     directory: &mut [u32],
     pool: &mut [Mark],
 ) -> Acted
-    requires { ⌜ Judged fits z top (q .0) l seen ⌝ }
+    requires { ⌜ Judged Whose.First fits z top (q .0) l seen ⌝ }
     ensures { λ r. ⌜ effect r (memory (now (readings .exit)) (now (links .exit)) (now (directory .exit)) (now (pool .exit))) ≡ entryOf fits z top (q .0) l seen kind i v (memory (now (readings .entry)) (now (links .entry)) (now (directory .entry)) (now (pool .entry))) ⌝ }
 {
     if beginning(kind) {
@@ -143,7 +150,7 @@ pub fn run(
     pool: &mut [Mark],
 ) -> State
     ensures { λ r. ⌜ batch r (memory (now (readings .exit)) (now (links .exit)) (now (directory .exit)) (now (pool .exit))) (now (answers .exit)) ≡ batchOf s (memory (now (readings .entry)) (now (links .entry)) (now (directory .entry)) (now (pool .entry))) (now (answers .entry)) (now (kinds .entry)) (now (processes .entry)) (now (cells .entry)) (now (values .entry)) ⌝ }
-    ensures { λ _. ⌜ Told (now (kinds .entry)) (now (processes .entry)) (now (cells .entry)) (now (values .entry)) (batch s (memory (now (readings .entry)) (now (links .entry)) (now (directory .entry)) (now (pool .entry))) (now (answers .entry))) (entries (now (kinds .entry)) (now (processes .entry)) (now (cells .entry)) (now (values .entry)) (now (answers .entry))) (now (answers .exit)) ⌝ }
+    ensures { λ _. ⌜ Told grid (callAt (s .terms) (now (kinds .entry)) (now (processes .entry)) (now (cells .entry)) (now (values .entry))) (batch s (memory (now (readings .entry)) (now (links .entry)) (now (directory .entry)) (now (pool .entry))) (now (answers .entry))) (entries (now (kinds .entry)) (now (processes .entry)) (now (cells .entry)) (now (values .entry)) (now (answers .entry))) (now (answers .exit)) ⌝ }
 {
     let mut t = s;
     let fits = state_fits(s);

@@ -27,6 +27,8 @@ pub fn word_of(a: Answer) -> u64 {
         Answer::Read(v, b, k) => packed(if b { 7 } else { 3 }, k, v),
         Answer::Written(k) => packed(4, k, 0),
         Answer::Asked(b, k) => packed(5, k, b as u32),
+        Answer::Found(v, k) => packed(8, k, v),
+        Answer::Altered(v, b, k) => packed(if b { 10 } else { 9 }, k, v),
         Answer::Refused(r) => packed(6, 0, refusals::number(r)),
     }
 }
@@ -42,6 +44,8 @@ fn turns(k: u32, a: Answer) -> u32
         Answer::Read(_, _, _) => MOST,
         Answer::Written(_) => MOST,
         Answer::Asked(_, _) => MOST,
+        Answer::Found(_, _) => MOST,
+        Answer::Altered(_, _, _) => MOST,
         Answer::Refused(_) => MOST,
     }
 }

@@ -4,45 +4,46 @@ use Prim.Native.Nat.{ℕ}
 use mathlib.Core.Path.{_≡_, _∙_, subst}
 use mathlib.Core.List.{List, _++_, List·Memᴰ}
 use Rattle.numbers.specs.Numbers.{fillOf}
-use Rattle.acts.specs.Worlds.{World, grid, Call}
+use Rattle.acts.specs.Worlds.{Call}
 use Rattle.theory.specs.Interface as Theory
-use Rattle.demands.specs.Types.{Terms, State, Ask}
-use Rattle.demands.specs.Kinds.{writing}
-use Rattle.demands.specs.Book.{Book, Run, run, start}
-use Rattle.demands.specs.Growing.{Placed, GrowingWith, Growing, OrderGrows}
+use Rattle.demands.specs.Types.{Terms}
+use Rattle.demands.specs.Kinds.{Kind}
+use Rattle.demands.specs.Book.{Book, Run}
+use Rattle.demands.specs.Growing.{Placed, GrowingWith, OrderGrows}
 use Rattle.bridge.specs.Good.{law}
-use Rattle.bridge.specs.Runs.{GoodWith, later, keeps, opened-as, fresh-good}
+use Rattle.bridge.specs.Bridge.{Bridge}
+use Rattle.bridge.specs.Runs.{GoodWith, later, keeps, opened-good}
 use Rattle.bridge.specs.Along.{growing}
 use Rattle.bridge.specs.Proved.{under-way}
 
 abbrev fill : Terms → ℕ → ℕ
 fill z = fillOf (z .first) (z .step)
 
-module _ {z : Terms} where
-  abbrev log : {r : Run State} → GoodWith z r → List Theory.Entry
-  log H = H .good .whole .log
+module _ {S A : Type 0} {K : Kind S A} (B : Bridge K) where
+  module _ {z : Terms} where
+    abbrev log : {r : Run S} → GoodWith B z r → List Theory.Entry
+    log R = R .run .good .whole .log
 
-  -- the order so far of a good run
-  abbrev ordered : (r : Run State) → GoodWith z r → Theory.OrderOf (fill z) (r .book .ended) (Placed (r .book))
-  ordered r H =
-      let O = Theory.order-so-far (law (H .good)) (H .good .whole) in
-      Theory.order-as
-      (record {
-        order = log H;
-        orderly = subst (λ (z : Terms). Theory.Orderly (fill z) (log H)) (H .terms) (O .orderly);
-        complete = O .complete;
-        sound = O .sound;
-      })
-      (λ e m x. record { under-way = under-way (H .good) e (x .0); early = x .1 })
+    -- the order so far of a good run
+    abbrev ordered : (r : Run S) → GoodWith B z r → Theory.OrderOf (fill z) (r .book .ended) (Placed (r .book))
+    ordered r R =
+        let H = R .run .good in
+        let O = Theory.order-so-far (law H) (H .whole) in
+        Theory.order-as
+        (record {
+          order = log R;
+          orderly = subst (λ (z : Terms). Theory.Orderly (fill z) (log R)) (R .terms) (O .orderly);
+          complete = O .complete;
+          sound = O .sound;
+        })
+        (λ e m x. record { under-way = under-way H e (x .0); early = x .1 })
 
-  adds : (r : Run State) (H : GoodWith z r) (c : Call Ask z) → Theory.Grown (log H) (log (keeps r H c))
-  adds r H c = later r H c .grown
+    adds : (r : Run S) (R : GoodWith B z r) (c : Call A z) → Theory.Grown (log R) (log (keeps B r R c))
+    adds r R c = later B r R c .later .grown
 
--- THE THEOREM
-pub only-grows : OrderGrows writing grid
-only-grows z mem ok =
-    opened-as z mem ok (λ (w : World State). Growing (fill z) (λ (calls : List (Call Ask z)). run writing grid (start w) calls .book))
-    (growing writing grid (GoodWith z) (fill z) ordered keeps adds _ (fresh-good z mem ok))
+  -- THE THEOREM
+  pub only-grows : OrderGrows K (K .ours)
+  only-grows z mem ok = growing K (K .ours) (GoodWith B z) (fill z) ordered (keeps B) adds _ (opened-good B z mem ok)
 
 -- What follows from it, of calls of any form.
 module _ {Besides : Book → Theory.Entry → Type 0} {C : Type 0} {f : ℕ → ℕ} {book : List C → Book} (G : GrowingWith Besides f book)

@@ -1,7 +1,8 @@
--- A grid as opened is good.
+-- A grid as opened is good, whatever its hands.
 -- Assumes nothing.
 use Prim.Native.Nat.{ℕ, _<_}
 use mathlib.Core.Path.{_≡_, refl, sym, ap, subst}
+use mathlib.Core.Bool.{Bool}
 use mathlib.Core.List.{[]}
 use native.Mathlib.Decide.{decLt}
 use native.Mathlib.Omega.{arith}
@@ -11,7 +12,7 @@ use Rattle.lanes.specs.Ranges.{rest}
 use Rattle.acts.specs.Calls as Grid
 use Rattle.acts.specs.Lent.{Admitted}
 use Rattle.theory.specs.Interface as Theory
-use Rattle.demands.specs.Types.{Terms, Memory}
+use Rattle.demands.specs.Types.{Terms, Hand, Memory}
 use Rattle.demands.specs.Book.{blank}
 use Rattle.bridge.specs.Shadow.{gridOf, pairOf, startsIn}
 use Rattle.bridge.specs.Good.{Good}
@@ -23,9 +24,9 @@ fresh-lane q = by (decLt q mostProcesses)
     by (yes h) = getD-replicate mostProcesses q rest rest h
     by (no h) = List·getD-eq-default (replicate mostProcesses rest) rest {n = q} (omega (arith, length-replicate mostProcesses rest))
 
-pub good-fresh : (z : Terms) (mem : Memory) → Admitted z mem → Good (Grid.fresh z) mem blank
+pub good-fresh : (pair : Bool) (hand : ℕ → Hand) (z : Terms) (mem : Memory) → Admitted z mem → Good pair (Grid.fresh z) hand mem blank
 unfolding Theory.opened
-good-fresh z mem A = record {
+good-fresh pair hand z mem A = record {
   bounds = A .bounds;
   lanes = length-replicate mostProcesses rest;
   lengths = A .lengths;
@@ -33,8 +34,9 @@ good-fresh z mem A = record {
   beyond = λ q h. fresh-lane q;
   marks = λ q n. 0;
   held = λ q. 0;
+  was = λ q. 0;
   holds = λ q. rw (fresh-lane q) tt;
-  whole = subst (λ (R : Theory.Run). Theory.Whole (gridOf z) R)
+  whole = subst (λ (R : Theory.Run). Theory.Whole (gridOf pair z) R)
       (λ x. record {
         watch = record {
           mem = record {
@@ -53,6 +55,6 @@ good-fresh z mem A = record {
         tally = record { cells = λ i. 0; procs = λ q. 0 };
         taken = λ q. 0;
       })
-      (Theory.whole-opened (gridOf z) (λ i. getD (mem .readings) i 0) (λ i. pairOf (getD (mem .links) i 0)) (λ q n. 0) (startsIn (mem .directory))
+      (Theory.whole-opened (gridOf pair z) (λ i. getD (mem .readings) i 0) (λ i. pairOf (getD (mem .links) i 0)) (λ q n. 0) (startsIn (mem .directory))
       (λ k. getD (mem .pool) k 0) (λ q. 0));
 }

@@ -3,7 +3,7 @@
 use Prim.Native.Nat.{ℕ, _/_, _%_, _<_}
 use mathlib.Core.Path.{_≡_, refl, sym, ap, _∙_}
 use mathlib.Core.Logic.{_≢_}
-use mathlib.Core.Bool.{Bool, true, false}
+use mathlib.Core.Bool.{Bool, true, false, _&&_}
 use mathlib.Core.List.{List}
 use native.Mathlib.Decide.{ℕ-discrete, decLt}
 use native.Mathlib.Omega.{arith}
@@ -18,7 +18,7 @@ use Rattle.lanes.specs.Ranges.{rest}
 use Rattle.theory.specs.Interface as Theory
 use Rattle.demands.specs.Types.{Lane}
 use Rattle.demands.specs.Book.{Doing}
-use Rattle.bridge.specs.Shadow.{pairOf, startsIn}
+use Rattle.bridge.specs.Shadow.{pairOf, seenOf, startsIn}
 
 -- ---- a test of the code, and a decision of the theory
 
@@ -31,11 +31,13 @@ pub pick-both : {A : Type 0} (P : A → Type 0) (t : Bool) (a b : A) → P a →
 pick-both P true a b x y = x
 pick-both P false a b x y = y
 
-module _ {A B : Type 0} (h : A → B) where
-  pub pick-out : {X : Type 0} (d : Dec X) (a b : A) → h (Theory.pick d a b) ≡ Theory.pick d (h a) (h b)
-  pick-out (yes k) a b = refl
-  pick-out (no k) a b = refl
+pair-injective : (x y : ℕ) → pairOf x ≡ pairOf y → x ≡ y
+pair-injective x y k =
+    let hi : x / linkPlaces ≡ y / linkPlaces = ap (λ (L : Theory.Link). L .proc) k in
+    let lo : x % linkPlaces ≡ y % linkPlaces = ap (λ (L : Theory.Link). L .place) k in
+    omega arith
 
+module _ {A B : Type 0} (h : A → B) where
   pick-as : {X : Type 0} (d : Dec X) (t : Bool) (a b : A) → (X → t ≡ true) → ((X → ⊥) → t ≡ false) → Theory.pick d (h a) (h b) ≡ h (pick t a b)
   pick-as (yes k) t a b y n = rw (y k)
   pick-as (no k) t a b y n = rw (n k)
@@ -50,58 +52,64 @@ module _ {A B : Type 0} (h : A → B) where
   pub pick-link : (w v : ℕ) (L : Theory.Link) (a b : A) → pairOf v ≡ L → Theory.pick (Theory.sameLink (pairOf w) L) (h a) (h b) ≡ h (pick (eqb w v) a b)
   pick-link w v L a b e =
       pick-as (Theory.sameLink (pairOf w) L) (eqb w v) a b (λ k. eq-eqb w v (pair-injective w v (k ∙ sym e))) (λ n. ne-eqb w v (λ z. n (ap pairOf z ∙ e)))
+
+  -- a link and a reading against those that are remembered
+  pub pick-seen : (x y w v : ℕ) (a b : A)
+      → Theory.pick (Theory.sameSeen (seenOf x w) (seenOf y v)) (h a) (h b) ≡ h (pick (eqb w v && eqb x y) a b)
+  pick-seen x y w v a b = pick-as (Theory.sameSeen (seenOf x w) (seenOf y v)) (eqb w v && eqb x y) a b same other
     where
-      pair-injective : (x y : ℕ) → pairOf x ≡ pairOf y → x ≡ y
-      pair-injective x y k =
-          let hi : x / linkPlaces ≡ y / linkPlaces = ap (λ (L : Theory.Link). L .proc) k in
-          let lo : x % linkPlaces ≡ y % linkPlaces = ap (λ (L : Theory.Link). L .place) k in
-          omega arith
+      same : seenOf x w ≡ seenOf y v → (eqb w v && eqb x y) ≡ true
+      same k = rw (eq-eqb w v (pair-injective w v (ap (λ (S : Theory.Seen). S .at) k))) (eq-eqb x y (ap (λ (S : Theory.Seen). S .was) k))
+
+      other : (seenOf x w ≡ seenOf y v → ⊥) → (eqb w v && eqb x y) ≡ false
+      other n = by (ℕ-discrete w v) (ℕ-discrete x y)
+        where
+          by : Dec (w ≡ v) → Dec (x ≡ y) → (eqb w v && eqb x y) ≡ false
+          by (yes k) (yes l) = absurd (n (λ i. seenOf (l i) (k i)))
+          by (yes k) (no l) = rw (eq-eqb w v k) (ne-eqb x y l)
+          by (no k) l = rw (ne-eqb w v k)
 
 pub pair-link : (q n : ℕ) → q < linkProcesses → n < linkPlaces → pairOf (linkOf q n) ≡ Theory.mk q n
 pair-link q n hq hn = λ z. record { proc = process-link q n hq hn z; place = place-link q n hq hn z }
 
--- ---- a store in a list
+-- ---- tables
 
+-- two that agree but for process q
+pub upd-is : {A : Type 0} (f g : ℕ → A) (q : ℕ) (v : A) → v ≡ g q → ((r : ℕ) → r ≢ q → f r ≡ g r) → _≡_ {A = ℕ → A} (Theory.upd f q v) g
+upd-is f g q v own others = λ z r. at r (ℕ-discrete r q) z
+  where
+    at : (r : ℕ) → Dec (r ≡ q) → Theory.upd f q v r ≡ g r
+    at r (yes k) = rw k (Theory.upd-same f q v ∙ own)
+    at r (no k) = Theory.upd-other f q v r k ∙ others r k
+
+pub upd-self : {A : Type 0} (f : ℕ → A) (q : ℕ) (v : A) → v ≡ f q → _≡_ {A = ℕ → A} (Theory.upd f q v) f
+upd-self f q v e = upd-is f f q v e (λ r ne. refl)
+
+-- a store in a list
 pub list-set : {A B : Type 0} (h : A → B) (xs : List A) (i : ℕ) (v d : A) → i < length xs
     → _≡_ {A = ℕ → B} (Theory.upd (λ k. h (getD xs k d)) i (h v)) (λ k. h (getD (set xs i v) k d))
-list-set h xs i v d l = λ z k. at k (ℕ-discrete k i) z
-  where
-    at : (k : ℕ) → Dec (k ≡ i) → Theory.upd (λ k. h (getD xs k d)) i (h v) k ≡ h (getD (set xs i v) k d)
-    at k (yes e) = rw e (Theory.upd-same (λ k. h (getD xs k d)) i (h v) ∙ ap h (sym (getD-set-same xs i v d l)))
-    at k (no e) = Theory.upd-other (λ k. h (getD xs k d)) i (h v) k e ∙ ap h (sym (getD-set-other xs i k v d e))
+list-set h xs i v d l =
+    upd-is (λ k. h (getD xs k d)) (λ k. h (getD (set xs i v) k d)) i (h v) (ap h (sym (getD-set-same xs i v d l)))
+    (λ k ne. ap h (sym (getD-set-other xs i k v d ne)))
 
 -- of a process: what it is doing, and its lane
 module _ (doing : ℕ → Doing) (lanes : List Lane) (q : ℕ) (d : Doing) (l : Lane) (inside : q < length lanes) where
   pub lane-set : {B : Type 0} (h : Doing → Lane → B)
       → _≡_ {A = ℕ → B} (Theory.upd (λ r. h (doing r) (getD lanes r rest)) q (h d l)) (λ r. h (Theory.upd doing q d r) (getD (set lanes q l) r rest))
-  lane-set h = λ z r. at r (ℕ-discrete r q) z
-    where
-      at : (r : ℕ) → Dec (r ≡ q) → Theory.upd (λ r. h (doing r) (getD lanes r rest)) q (h d l) r ≡ h (Theory.upd doing q d r) (getD (set lanes q l) r rest)
-      at r (yes e) =
-          rw e
-          (Theory.upd-same (λ r. h (doing r) (getD lanes r rest)) q (h d l)
-          ∙ ap (λ (x : Doing). h x l) (sym (Theory.upd-same doing q d))
-          ∙ ap (h (Theory.upd doing q d q)) (sym (getD-set-same lanes q l rest inside)))
-      at r (no e) =
-          Theory.upd-other (λ r. h (doing r) (getD lanes r rest)) q (h d l) r e
-          ∙ ap (λ (x : Doing). h x (getD lanes r rest)) (sym (Theory.upd-other doing q d r e))
-          ∙ ap (h (Theory.upd doing q d r)) (sym (getD-set-other lanes q r l rest e))
+  lane-set h =
+      upd-is (λ r. h (doing r) (getD lanes r rest)) (λ r. h (Theory.upd doing q d r) (getD (set lanes q l) r rest)) q (h d l)
+      (λ z. h (sym (Theory.upd-same doing q d) z) (sym (getD-set-same lanes q l rest inside) z))
+      (λ r ne z. h (sym (Theory.upd-other doing q d r ne) z) (sym (getD-set-other lanes q r l rest ne) z))
 
-  -- a property of every process
-  pub lane-all : (P : ℕ → Doing → Lane → Type 0) → P q d l → ((r : ℕ) → r ≢ q → P r (doing r) (getD lanes r rest))
-      → (r : ℕ) → P r (Theory.upd doing q d r) (getD (set lanes q l) r rest)
-  lane-all P own others r = at (ℕ-discrete r q)
+  -- a property of every process, and of what else is known of it
+  pub lane-all : {X : Type 0} (P : Doing → Lane → X → Type 0) (mine : ℕ → X) (x : X) → P d l x
+      → ((r : ℕ) → r ≢ q → P (doing r) (getD lanes r rest) (mine r))
+      → (r : ℕ) → P (Theory.upd doing q d r) (getD (set lanes q l) r rest) (Theory.upd mine q x r)
+  lane-all P mine x own others r = at (ℕ-discrete r q)
     where
-      at : Dec (r ≡ q) → P r (Theory.upd doing q d r) (getD (set lanes q l) r rest)
-      at (yes e) = rw (e, Theory.upd-same doing q d, getD-set-same lanes q l rest inside) own
-      at (no e) = rw (Theory.upd-other doing q d r e, getD-set-other lanes q r l rest e) (others r e)
-
-pub upd-self : {A : Type 0} (f : ℕ → A) (q : ℕ) (v : A) → v ≡ f q → _≡_ {A = ℕ → A} (Theory.upd f q v) f
-upd-self f q v e = λ z r. at r (ℕ-discrete r q) z
-  where
-    at : (r : ℕ) → Dec (r ≡ q) → Theory.upd f q v r ≡ f r
-    at r (yes k) = rw k (Theory.upd-same f q v ∙ e)
-    at r (no k) = Theory.upd-other f q v r k
+      at : Dec (r ≡ q) → P (Theory.upd doing q d r) (getD (set lanes q l) r rest) (Theory.upd mine q x r)
+      at (yes e) = rw (e, Theory.upd-same doing q d, getD-set-same lanes q l rest inside, Theory.upd-same mine q x) own
+      at (no e) = rw (Theory.upd-other doing q d r e, getD-set-other lanes q r l rest e, Theory.upd-other mine q x r e) (others r e)
 
 -- ---- the directory, by lane and segment
 

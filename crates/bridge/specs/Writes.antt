@@ -1,169 +1,60 @@
--- Every step of a write after its check is the theory's step.
+-- The steps of a write, and of an operation that alters, that are not of the other; so any step of an operation under way is the theory's.
 -- Assumes nothing.
-use Prim.Native.Nat.{ℕ, suc, _+_, _^_, _<_}
+use Prim.Native.Nat.{ℕ, _<_}
 use mathlib.Core.Path.{_≡_, refl, sym, ap, _∙_, subst}
-use mathlib.Core.Bool.{Bool, true, false}
-use native.Mathlib.Decide.{decLt}
-use native.Mathlib.Numerals.{add-one}
+use mathlib.Core.Bool.{Bool, true, false, _&&_}
 use native.Mathlib.Omega.{arith}
+use borrow.Author.Tests.{eq-eqb}
 use lib.Dec.{eqb}
-use lib.ListN.{length, getD}
-use Rattle.numbers.specs.Numbers.{mostSegments, linkProcesses, linkPlaces, segmentOf, offsetOf, sizeOf, directoryWord, linkOf, tombstone}
+use lib.ListN.{getD}
+use Rattle.numbers.specs.Numbers.{linkProcesses, linkPlaces, linkOf}
+use Rattle.numbers.specs.Cells.{indexOf, fillAt}
 use Rattle.logic.specs.Pick.{pick}
+use Rattle.logic.specs.Truth.{and-true}
 use Rattle.lanes.specs.Ranges.{laneOf}
-use Rattle.steps.specs.Steps.{goes, startOf, entered, stored, putTurn, markingNext, markingTurn}
-use Rattle.steps.specs.Changes.{memoryAfter}
-use Rattle.numbers.specs.Cells.{markOf, indexOf}
+use Rattle.steps.specs.Steps.{goes}
+use Rattle.second.specs.List.{became, sets}
 use Rattle.theory.specs.Interface as Theory
-use Rattle.demands.specs.Types.{Cell, Place, Check, Marking, Op, State, Memory, Change, Next, Turn}
+use Rattle.demands.specs.Types.{Cell, Place, Check, Marking, Op, Act, Hand, State, Memory, Change, Next, Turn}
+use Rattle.demands.specs.Kinds.{actOf}
 use Rattle.demands.specs.Book.{busy, Book}
-use Rattle.demands.specs.Agrees.{Does}
-use Rattle.bridge.specs.Shadow.{gridOf, pairOf, seenOf, markAt, stageOf, startsIn, wordsOf}
-use Rattle.bridge.specs.ShadowLaws.{pick-yes, pick-link, pair-link, list-set, upd-self, starts-set}
-use Rattle.bridge.specs.Good.{HeldAt, Held, Good, law, behind, at-work, does}
-use Rattle.bridge.specs.Goes.{turnAs, memory, Goes, still, word-at}
-use Rattle.bridge.specs.Looks as Looks
+use Rattle.demands.specs.Agrees.{checking, Does, checks, reads, stores, marks, applies, InHand}
+use Rattle.bridge.specs.Shadow.{gridOf, seenOf, stageOf}
+use Rattle.bridge.specs.ShadowLaws.{pick-eq, pick-seen, pair-link}
+use Rattle.bridge.specs.Good.{HeldIn, HeldAt, Held, Good, law, behind, keeps, at-work, does, of-kind}
+use Rattle.bridge.specs.Goes.{turnAs, Goes, still}
+use Rattle.bridge.specs.Looks.{stage-check, goes-check, goes-reading}
+use Rattle.bridge.specs.Marks as Marks
 
-size-same : (s : ℕ) → 2 ^ suc s ≡ sizeOf s
-unfolding sizeOf
-size-same s = rw (add-one s)
+-- ---- of the first array: 1., and 7. of the link alone
 
-module _ {s : State} {mem : Memory} {b : Book} (H : Good s mem b) (q : ℕ) (hq : q < s .terms .p) (j : Cell) (v : ℕ) where
-  abbrev at : ℕ
-  at = indexOf (s .terms) j
-
-  abbrev GoesAt : Marking → Type 0
-  GoesAt k = Goes H q (Theory.write v) at (Op.Marking j k)
-
-  abbrev At : Marking → Type 0
-  At k = behind H .watch .lane q ≡ Theory.busy (Theory.write v) at (Theory.marking (markAt k))
-
-  few : q < linkProcesses
-  few = omega (arith, H .bounds .p-high)
-
-  -- the words, with the pool or the directory changed
-  held-kept : _≡_ {A = ℕ → ℕ} (H .held) (Theory.upd (H .held) q (H .held q))
-  held-kept = sym (upd-self (H .held) q (H .held q) refl)
-
-  -- 1.
-  pub goes-store : behind H .watch .lane q ≡ Theory.busy (Theory.write v) at Theory.store → Goes H q (Theory.write v) at (Op.Store j v)
+module _ {s : State} {hand : ℕ → Hand} {mem : Memory} {b : Book} (H : Good false s hand mem b) (q : ℕ) (hq : q < s .terms .p) (j : Cell) (v : ℕ) where
+  goes-store : behind H .watch .lane q ≡ Theory.busy (Theory.write v) (indexOf (s .terms) j) Theory.store
+      → Goes H q (Theory.write v) (indexOf (s .terms) j) (Op.Store j v)
   goes-store e = record {
-    change = Change.Reading at v;
+    change = Change.Reading (indexOf (s .terms) j) v;
     next = Next.Going (Op.Write j Check.Link);
     start = H .held q;
+    was = H .was q;
     turned = refl;
     same = refl;
     stores = omega (arith, H .lengths .readings, Theory.touches (law H) (H .whole) q e);
     words = still H q;
-    carries = (refl, tt);
+    carries = (checks (Theory.write v) j Check.Link, tt);
   }
 
-  -- 3.
-  goes-draw : (was : Bool) (w : ℕ) (n : Place) → GoesAt (Marking.Draw was w n)
-  goes-draw was w n = record {
-    change = Change.Top (s .top + sizeOf (segmentOf (n .0))) (segmentOf (n .0) + 1);
-    next = Next.Going (Op.Marking j (Marking.Enter was (s .top) w n));
-    start = s .top;
-    turned = refl;
-    same =
-        ap (λ (k : ℕ). Theory.turnTo (Theory.setDrawn k) (Theory.go (Theory.marking (Theory.enter was (seenOf w) (n .0)))))
-        (sym (add-one (segmentOf (n .0))));
-    stores = tt;
-    words = ap (λ (k : ℕ). wordsOf (s .top + k) mem (Theory.upd (H .held) q (s .top))) (size-same (segmentOf (n .0)));
-    carries = (refl, refl);
-  }
-
-  goes-enter : (was : Bool) (start w : ℕ) (n : Place) → At (Marking.Enter was start w n) → H .held q ≡ start → GoesAt (Marking.Enter was start w n)
-  goes-enter was start w n e h = record {
-    change = Change.Directory (directoryWord q (segmentOf (n .0))) start;
-    next = Next.Going (Op.Marking j (entered q was w n));
-    start = H .held q;
-    turned = refl;
-    same =
-        ap (λ (g : Theory.Marking). Theory.turnTo Theory.keep (Theory.go (Theory.marking g)))
-        (Looks.entered-same q w few was n (omega (arith, H .bounds .m-high, tch .1)));
-    stores = tt;
-    words = λ z. record { directory = directory z; pool = λ k. getD (mem .pool) k 0; top = s .top; held = held-kept z };
-    carries = (refl, Looks.entered-free q w (H .held q) was n);
-  }
+  goes-swap : (w : ℕ) (n : Place) → Marks.At (Theory.write v) H q hq j (Marking.Swap w n) → Marks.GoesAt (Theory.write v) H q hq j (Marking.Swap w n)
+  goes-swap w n e =
+      Marks.goes-swap (Theory.write v) H q hq j tt w n (eqb link w) (Change.Link at (linkOf q (n .0))) Next.Written refl same
+      (omega (arith, H .lengths .links, tch .0)) refl tt
     where
-      tch : Theory.Touch (gridOf (s .terms)) (behind H .words) q at (Theory.marking (Theory.enter was (seenOf w) (n .0)))
-      tch = Theory.touches (law H) (H .whole) q e
+      at : ℕ
+      at = indexOf (s .terms) j
 
-      directory : Theory.upd (startsIn (mem .directory)) q (Theory.upd (startsIn (mem .directory) q) (segmentOf (n .0)) (H .held q))
-          ≡ startsIn (memoryAfter (Change.Directory (directoryWord q (segmentOf (n .0))) start) mem .directory)
-      directory =
-          ap (λ (x : ℕ). Theory.upd (startsIn (mem .directory)) q (Theory.upd (startsIn (mem .directory) q) (segmentOf (n .0)) x)) h
-          ∙ starts-set (mem .directory) q (segmentOf (n .0)) start (tch .0) (omega (arith, H .lengths .directory, tch .0))
+      link : ℕ
+      link = getD (mem .links) (indexOf (s .terms) j) 0
 
-  -- 4. and 5.: a word is stored at the own place n
-  module _ (n : Place) (word : ℕ)
-      (tch : Theory.Inside (gridOf (s .terms)) (startsIn (mem .directory) q (segmentOf (n .0))) (n .0) × (segmentOf (n .0) < mostSegments)
-      × (n .0 < Theory.mostMarks (gridOf (s .terms)))) where
-    abbrev start : ℕ
-    start = startOf (mem .directory) q (n .0)
-
-    start-same : startsIn (mem .directory) q (segmentOf (n .0)) ≡ start
-    start-same = pick-yes (decLt (segmentOf (n .0)) mostSegments) start 0 (tch .1)
-
-    in-pool : start + offsetOf (n .0) < length (mem .pool)
-    in-pool = omega (arith, H .lengths .pool, start-same, tch .0 .0)
-
-    abbrev changed : ℕ → ℕ
-    changed = Theory.upd (λ k. getD (mem .pool) k 0) (startsIn (mem .directory) q (segmentOf (n .0)) + offsetOf (n .0)) word
-
-    pool-same : _≡_ {A = ℕ → ℕ} changed (λ k. getD (memoryAfter (Change.Mark start n word) mem .pool) k 0)
-    pool-same =
-        ap (λ (x : ℕ). Theory.upd (λ k. getD (mem .pool) k 0) (x + offsetOf (n .0)) word) start-same
-        ∙ list-set (λ x. x) (mem .pool) (start + offsetOf (n .0)) word 0 in-pool
-
-    goes-word : (k g : Marking)
-        → Theory.takeTurn (gridOf (s .terms)) (memory H q) q (Theory.write v) at (Theory.marking (markAt k))
-        ≡ Theory.turnTo (Theory.setMark (n .0) word) (Theory.go (Theory.marking (markAt g)))
-        → Theory.wordsAfter (gridOf (s .terms)) (behind H .words) q at (Theory.marking (markAt k))
-        ≡ record { directory = startsIn (mem .directory); pool = changed; top = s .top; held = H .held }
-        → markingTurn (s .terms) (s .top) q (laneOf s q) (mem .links) (mem .directory) (mem .pool) j k ≡ putTurn q (mem .directory) (mem .pool) j n word g
-        → HeldAt g (H .held q) → GoesAt k
-    goes-word k g same words is free = record {
-      change = Change.Mark start n word;
-      next = Next.Going (Op.Marking j g);
-      start = H .held q;
-      turned = is ∙ ap (stored start j n word g) (word-at H q start (n .0) in-pool);
-      same = same;
-      stores = tt;
-      words = words ∙ (λ z. record { directory = startsIn (mem .directory); pool = pool-same z; top = s .top; held = held-kept z });
-      carries = (refl, free);
-    }
-
-  goes-tombstone : (w : ℕ) (n : Place) → At (Marking.Tombstone w n) → GoesAt (Marking.Tombstone w n)
-  goes-tombstone w n e =
-      goes-word n tombstone (Theory.touches (law H) (H .whole) q e) (Marking.Tombstone w n) (markingNext (laneOf s q) w (record { 0 = n .0 + 1 }))
-      (ap (λ (g : Theory.Marking). Theory.turnTo (Theory.setMark (n .0) tombstone) (Theory.go (Theory.marking g))) (Looks.next-same H q w (n .0)))
-      refl refl (Looks.next-free q w (H .held q) (laneOf s q) (record { 0 = n .0 + 1 }))
-
-  goes-mark : (w : ℕ) (n : Place) → At (Marking.Mark w n) → GoesAt (Marking.Mark w n)
-  goes-mark w n e =
-      goes-word n (markOf j) (Theory.touches (law H) (H .whole) q e) (Marking.Mark w n) (Marking.Force w n) refl refl refl tt
-
-  -- 6.
-  goes-force : (w : ℕ) (n : Place) → GoesAt (Marking.Force w n)
-  goes-force w n = record {
-    change = Change.Marks (n .0 + 1);
-    next = Next.Going (Op.Marking j (Marking.Swap w n));
-    start = H .held q;
-    turned = refl;
-    same =
-        ap (λ (k : ℕ). Theory.turnTo (Theory.setInForce k) (Theory.go (Theory.marking (Theory.swap (seenOf w) (n .0))))) (sym (add-one (n .0)));
-    stores = tt;
-    words = still H q;
-    carries = (refl, tt);
-  }
-
-  -- 7.
-  goes-swap : (w : ℕ) (n : Place) → At (Marking.Swap w n) → GoesAt (Marking.Swap w n)
-  goes-swap w n e = by (eqb (getD (mem .links) at 0) w) refl
-    where
-      tch : (at < s .terms .m) × (n .0 < Theory.mostMarks (gridOf (s .terms)))
+      tch : (indexOf (s .terms) j < s .terms .m) × (n .0 < Theory.mostMarks (gridOf false (s .terms)))
       tch = Theory.touches (law H) (H .whole) q e
 
       won : Turn
@@ -172,82 +63,131 @@ module _ {s : State} {mem : Memory} {b : Book} (H : Good s mem b) (q : ℕ) (hq 
       lost : Turn
       lost = goes (Op.Marking j (Marking.TakeBack n))
 
-      same : Theory.takeTurn (gridOf (s .terms)) (memory H q) q (Theory.write v) at (Theory.marking (Theory.swap (seenOf w) (n .0)))
-          ≡ turnAs (pick (eqb (getD (mem .links) at 0) w) won lost)
+      same : Theory.takeTurn (gridOf false (s .terms)) (behind H .watch .mem) q (Theory.write v) (indexOf (s .terms) j)
+          (Theory.marking (Theory.swap (seenOf 0 w) (n .0))) ≡ turnAs 0 (pick (eqb link w) won lost)
       same =
-          ap (λ (L : Theory.Link). Theory.pick (Theory.sameLink (pairOf (getD (mem .links) (indexOf (s .terms) j) 0)) (pairOf w))
-          (Theory.turnTo (Theory.setLink (indexOf (s .terms) j) L) (Theory.end Theory.done)) (turnAs lost))
-          (sym (pair-link q (n .0) few (omega (arith, H .bounds .m-high, tch .1))))
-          ∙ pick-link turnAs (getD (mem .links) (indexOf (s .terms) j) 0) w (pairOf w) won lost refl
+          ap (λ (L : Theory.Link). Theory.pick (Theory.sameSeen (seenOf 0 link) (seenOf 0 w))
+          (Theory.turnTo (Theory.setLink (indexOf (s .terms) j) L) (Theory.end Theory.done)) (turnAs 0 lost))
+          (sym (pair-link q (n .0) (omega (arith, H .bounds .p-high)) (omega (arith, H .bounds .m-high, tch .1))))
+          ∙ pick-seen (turnAs 0) 0 0 link w won lost
+          ∙ ap (λ (t : Bool). turnAs 0 (pick t won lost)) (ap (λ (t : Bool). eqb link w && t) (eq-eqb 0 0 refl) ∙ and-true (eqb link w))
 
-      by : (t : Bool) → eqb (getD (mem .links) at 0) w ≡ t → GoesAt (Marking.Swap w n)
-      by true is = record {
-        change = Change.Link (indexOf (s .terms) j) (linkOf q (n .0));
-        next = Next.Written;
-        start = H .held q;
-        turned = ap (λ (t : Bool). pick t won lost) is;
-        same = same ∙ ap (λ (t : Bool). turnAs (pick t won lost)) is;
-        stores = omega (arith, H .lengths .links, tch .0);
-        words = still H q;
-        carries = tt;
-      }
-      by false is = record {
-        change = Change.Nothing;
-        next = Next.Going (Op.Marking j (Marking.TakeBack n));
-        start = H .held q;
-        turned = ap (λ (t : Bool). pick t won lost) is;
-        same = same ∙ ap (λ (t : Bool). turnAs (pick t won lost)) is;
-        stores = tt;
-        words = still H q;
-        carries = (refl, tt);
-      }
+-- ---- of the second: 7. of the reading and the link together, and 9.
 
-  -- 8.
-  goes-back : (n : Place) → GoesAt (Marking.TakeBack n)
-  goes-back n = record {
-    change = Change.Marks (n .0);
-    next = Next.Written;
+acted-same : (a : Act) (x : ℕ) → Theory.acted (actOf a) x ≡ became a x
+acted-same (Act.Compare e v) x = pick-eq (λ y. y) x e v x
+acted-same (Act.Add d) x = refl
+acted-same (Act.Put v) x = refl
+
+took-same : (a : Act) (x : ℕ) → Theory.took (actOf a) x ≡ sets a x
+took-same (Act.Compare e v) x = pick-eq (λ y. y) x e true false ∙ picked (eqb x e)
+  where
+    picked : (t : Bool) → pick t true false ≡ t
+    picked true = refl
+    picked false = refl
+took-same (Act.Add d) x = refl
+took-same (Act.Put v) x = refl
+
+module _ {s : State} {hand : ℕ → Hand} {mem : Memory} {b : Book} (H : Good true s hand mem b) (q : ℕ) (hq : q < s .terms .p) (j : Cell) (a : Theory.Act) where
+  goes-pair : (w : ℕ) (n : Place) → Marks.At (Theory.alter a) H q hq j (Marking.Swap w n) → Marks.GoesAt (Theory.alter a) H q hq j (Marking.Swap w n)
+  goes-pair w n e =
+      Marks.goes-swap (Theory.alter a) H q hq j tt w n (eqb link w && eqb reading (hand q .was)) (Change.Both at (fillAt (s .terms) j) (linkOf q (n .0)))
+      (Next.Going (Op.Apply j)) refl same (omega (arith, H .lengths .readings, tch .0), omega (arith, H .lengths .links, tch .0)) refl (applies a j, tt)
+    where
+      at : ℕ
+      at = indexOf (s .terms) j
+
+      reading : ℕ
+      reading = getD (mem .readings) (indexOf (s .terms) j) 0
+
+      link : ℕ
+      link = getD (mem .links) (indexOf (s .terms) j) 0
+
+      tch : (indexOf (s .terms) j < s .terms .m) × (n .0 < Theory.mostMarks (gridOf true (s .terms)))
+      tch = Theory.touches (law H) (H .whole) q e
+
+      won : Turn
+      won = Turn.Turned (Change.Both (indexOf (s .terms) j) (fillAt (s .terms) j) (linkOf q (n .0))) (Next.Going (Op.Apply j))
+
+      lost : Turn
+      lost = goes (Op.Marking j (Marking.TakeBack n))
+
+      same : Theory.takeTurn (gridOf true (s .terms)) (behind H .watch .mem) q (Theory.alter a) (indexOf (s .terms) j)
+          (Theory.marking (Theory.swap (seenOf (hand q .was) w) (n .0)))
+          ≡ turnAs (hand q .was) (pick (eqb link w && eqb reading (hand q .was)) won lost)
+      same =
+          ap (λ (L : Theory.Link). Theory.pick (Theory.sameSeen (seenOf reading link) (seenOf (hand q .was) w))
+          (Theory.turnTo (Theory.setBoth (indexOf (s .terms) j) (fillAt (s .terms) j) L) (Theory.go Theory.apply)) (turnAs (hand q .was) lost))
+          (sym (pair-link q (n .0) (omega (arith, H .bounds .p-high)) (omega (arith, H .bounds .m-high, tch .1))))
+          ∙ pick-seen (turnAs (hand q .was)) reading (hand q .was) link w won lost
+
+  goes-apply : actOf (hand q .act) ≡ a → behind H .watch .lane q ≡ Theory.busy (Theory.alter a) (indexOf (s .terms) j) Theory.apply
+      → Goes H q (Theory.alter a) (indexOf (s .terms) j) (Op.Apply j)
+  goes-apply act e = record {
+    change = Change.Reading (indexOf (s .terms) j) (became (hand q .act) x);
+    next = Next.Altered x (sets (hand q .act) x);
     start = H .held q;
+    was = H .was q;
     turned = refl;
-    same = refl;
-    stores = tt;
+    same =
+        ap (λ (c : Theory.Act). Theory.turnTo (Theory.setReading (indexOf (s .terms) j) (Theory.acted c x)) (Theory.end (Theory.altered x (Theory.took c x))))
+        (sym act)
+        ∙ (λ z. Theory.turnTo (Theory.setReading (indexOf (s .terms) j) (acted-same (hand q .act) x z))
+        (Theory.end (Theory.altered x (took-same (hand q .act) x z))));
+    stores = omega (arith, H .lengths .readings, Theory.touches (law H) (H .whole) q e);
     words = still H q;
     carries = tt;
   }
+    where
+      x : ℕ
+      x = getD (mem .readings) (indexOf (s .terms) j) 0
 
-  goes-marking : (k : Marking) → At k → HeldAt k (H .held q) → GoesAt k
-  goes-marking (Marking.Draw was w x) e h = goes-draw was w x
-  goes-marking (Marking.Enter was start w x) e h = goes-enter was start w x e h
-  goes-marking (Marking.Tombstone w x) e h = goes-tombstone w x e
-  goes-marking (Marking.Mark w x) e h = goes-mark w x e
-  goes-marking (Marking.Force w x) e h = goes-force w x
-  goes-marking (Marking.Swap w x) e h = goes-swap w x e
-  goes-marking (Marking.TakeBack x) e h = goes-back x
+-- ---- any step
 
--- any step of an operation under way
-pub goes-on : {s : State} {mem : Memory} {b : Book} (H : Good s mem b) (q : ℕ) {began taken : ℕ} {o : Theory.Op} {i : ℕ}
-    → b .doing q ≡ busy began o i taken → Goes H q o i (laneOf s q .op)
-goes-on {s} {mem} {b} H q {began} {taken} {o} {i} e = by o (laneOf s q .op) (at-work H q e) (does H q e .0) (H .holds q)
+goes-marking : (o : Theory.Op) {s : State} {hand : ℕ → Hand} {mem : Memory} {b : Book} (H : Good (Theory.second o) s hand mem b) (q : ℕ) (hq : q < s .terms .p)
+    (j : Cell) (k : Marking) → Theory.Writing o → Marks.At o H q hq j k → HeldAt k (H .held q) → Marks.GoesAt o H q hq j k
+goes-marking o H q hq j (Marking.Draw set w n) wr e h = Marks.goes-draw o H q hq j wr set w n
+goes-marking o H q hq j (Marking.Enter set start w n) wr e h = Marks.goes-enter o H q hq j wr set start w n e h
+goes-marking o H q hq j (Marking.Tombstone w n) wr e h = Marks.goes-tombstone o H q hq j wr w n e
+goes-marking o H q hq j (Marking.Mark w n) wr e h = Marks.goes-mark o H q hq j wr w n e
+goes-marking o H q hq j (Marking.Force w n) wr e h = Marks.goes-force o H q hq j wr w n
+goes-marking (Theory.write v) H q hq j (Marking.Swap w n) wr e h = goes-swap H q hq j v w n e
+goes-marking (Theory.alter a) H q hq j (Marking.Swap w n) wr e h = goes-pair H q hq j a w n e
+goes-marking (Theory.write v) H q hq j (Marking.TakeBack n) wr e h = Marks.goes-back (Theory.write v) H q hq j tt n Next.Written refl refl tt
+goes-marking (Theory.alter a) H q hq j (Marking.TakeBack n) wr e h =
+    Marks.goes-back (Theory.alter a) H q hq j tt n (Next.Going (Op.Apply j)) refl refl (applies a j, tt)
+
+held-check : (o : Theory.Op) (j : Cell) (c : Check) (x : ℕ) → Held (checking o j c) x → HeldIn c x
+held-check (Theory.read t) j c x h = h
+held-check Theory.asked j c x h = h
+held-check (Theory.write v) j c x h = h
+held-check (Theory.alter a) j c x h = h
+
+goes-at : {s : State} {hand : ℕ → Hand} {mem : Memory} {b : Book} (o : Theory.Op) (H : Good (Theory.second o) s hand mem b) (q : ℕ) (i : ℕ) (op : Op)
+    → Does (s .terms) o i op → InHand o (hand q) → q < s .terms .p → behind H .watch .lane q ≡ Theory.busy o i (stageOf (keeps H q o) op)
+    → Held op (H .held q) → Goes H q o i op
+goes-at {s} {hand} {mem} {b} o H q i op (checks p j c) act hq e h =
+    goes-check q j o H c few small (e ∙ ap (Theory.busy o (indexOf (s .terms) j)) (stage-check (keeps H q o) o j c)) (held-check o j c (H .held q) h)
   where
-    hq : q < s .terms .p
-    hq = Theory.process-fits (law H) (H .whole) q (at-work H q e)
-
     few : q < linkProcesses
     few = omega (arith, H .bounds .p-high, hq)
 
     small : laneOf s q .marks < linkPlaces
     small = omega (arith, H .bounds .m-high, Theory.marks-fit (law H) (H .whole) q)
+goes-at o H q i op (reads t j) act hq e h = goes-reading q j t H
+goes-at o H q i op (stores v j) act hq e h = goes-store H q hq j v e
+goes-at o H q i op (marks p j k w) act hq e h = goes-marking o H q hq j k w e h
+goes-at o H q i op (applies a j) act hq e h = goes-apply H q hq j a act e
 
-    Fits : Theory.Op → Op → ℕ → Type 0
-    Fits o op k = behind H .watch .lane q ≡ Theory.busy o k (stageOf op) → Goes H q o k op
+-- of an operation under way, which is one of the array's own
+pub goes-on : {pair : Bool} {s : State} {hand : ℕ → Hand} {mem : Memory} {b : Book} (H : Good pair s hand mem b) (q : ℕ)
+    {began taken : ℕ} {o : Theory.Op} {i : ℕ} → b .doing q ≡ busy began o i taken → Goes H q o i (laneOf s q .op)
+goes-on {pair} {s} {hand} {mem} {b} H q {began} {taken} {o} {i} e =
+    subst (λ (p : Bool). (H : Good p s hand mem b) → Goes-there p H) (sym (of-kind H q e)) there H (at-work H q e) (H .holds q)
+  where
+    Goes-there : (p : Bool) → Good p s hand mem b → Type 0
+    Goes-there p H = behind H .watch .lane q ≡ Theory.busy o i (stageOf (keeps H q o) (laneOf s q .op)) → Held (laneOf s q .op) (H .held q)
+        → Goes H q o i (laneOf s q .op)
 
-    -- the cell of the operation lies at the book's index
-    by : (o : Theory.Op) (op : Op) → behind H .watch .lane q ≡ Theory.busy o i (stageOf op) → Does (s .terms) o i op → Held op (H .held q) → Goes H q o i op
-    by Theory.read (Op.Read j c) at d h = subst (Fits Theory.read (Op.Read j c)) d (λ at. Looks.goes-read H q j c at h) at
-    by Theory.read (Op.Reading j) at d h = subst (Fits Theory.read (Op.Reading j)) d (λ at. Looks.goes-reading H q j) at
-    by Theory.asked (Op.Asked j c) at d h = subst (Fits Theory.asked (Op.Asked j c)) d (λ at. Looks.goes-asked H q j c at h) at
-    by (Theory.write v) (Op.Store j w) at d h =
-        subst (λ (x : ℕ). Goes H q (Theory.write v) i (Op.Store j x)) (sym (d .1))
-        (subst (Fits (Theory.write v) (Op.Store j v)) (d .0) (goes-store H q hq j v) at)
-    by (Theory.write v) (Op.Write j c) at d h = subst (Fits (Theory.write v) (Op.Write j c)) d (λ at. Looks.goes-check H q j v c few small at h) at
-    by (Theory.write v) (Op.Marking j k) at d h = subst (Fits (Theory.write v) (Op.Marking j k)) d (λ at. goes-marking H q hq j v k at h) at
+    there : (H : Good (Theory.second o) s hand mem b) → Goes-there (Theory.second o) H
+    there H′ = goes-at o H′ q i (laneOf s q .op) (does H q e .0) (does H q e .1) (Theory.process-fits (law H) (H .whole) q (at-work H q e))

@@ -13,7 +13,7 @@ use Rattle.steps.specs.Steps.{goes, found, tombstoneFirst, markingNext, checked
 use Rattle.acts.specs.Calls as Grid
 use Rattle.acts.specs.Worlds.{Result, Machine, grid}
 use Rattle.lanes.specs.Ranges.{laneOf, marksOf}
-use Rattle.demands.specs.Types.{Cell, Place, Terms, Marking, Op, Lane, State, Memory, Found, Change, Next, Turn, Ask}
+use Rattle.demands.specs.Types.{Cell, Place, Terms, Marking, Op, Whose, Lane, State, Memory, Found, Change, Next, Turn, Ask}
 
 -- A step of another machine, as a result; a machine that opens and begins as the grid does.
 abbrev pub resulted : Grid.Outcome → Result State
@@ -28,7 +28,7 @@ Rules A = Terms → ℕ → ℕ → Lane → (ℕ → ℕ) → Memory → A
 
 -- A machine that takes its steps by another list; by ours it is the grid.
 abbrev pub by : Rules (Op → Turn) → Machine State Ask
-by turn = stepping (λ s q mem. Grid.stepBy s q mem (turn (s .terms) (s .top) q (laneOf s q) (marksOf s) mem (laneOf s q .op)))
+by turn = stepping (λ s q mem. Grid.stepBy Whose.First s q mem (turn (s .terms) (s .top) q (laneOf s q) (marksOf s) mem (laneOf s q .op)))
 
 pub by-ours : (s : State) (q : ℕ) (mem : Memory) → by opTurn .step s q mem ≡ grid .step s q mem
 by-ours s q mem = refl
@@ -45,6 +45,8 @@ writing check rule z top q l inForce mem (Op.Asked i c) = opTurn z top q l inFor
 writing check rule z top q l inForce mem (Op.Store i v) = opTurn z top q l inForce mem (Op.Store i v)
 writing check rule z top q l inForce mem (Op.Write i c) = check z top q l inForce mem i (found z top q l inForce mem i c)
 writing check rule z top q l inForce mem (Op.Marking i k) = rule z top q l inForce mem i k
+writing check rule z top q l inForce mem (Op.Alter i c) = opTurn z top q l inForce mem (Op.Alter i c)
+writing check rule z top q l inForce mem (Op.Apply i) = opTurn z top q l inForce mem (Op.Apply i)
 
 -- ---- 004, Remark 1: the link is swapped before the marks are in force
 

@@ -58,6 +58,8 @@ fixedAnswer Answer.Going = Answer.Going
 fixedAnswer (Answer.Read v t n) = Answer.Read 7 t n
 fixedAnswer (Answer.Written n) = Answer.Written n
 fixedAnswer (Answer.Asked t n) = Answer.Asked t n
+fixedAnswer (Answer.Found v n) = Answer.Found v n
+fixedAnswer (Answer.Altered v t n) = Answer.Altered v t n
 fixedAnswer (Answer.Refused r) = Answer.Refused r
 
 abbrev pub fixed : Machine State Ask
@@ -69,8 +71,8 @@ written-then-read = writes 0 0 9 then steps 0 7 then reads 0 0 then steps 0 5
 pub fixed-breaks-the-order : OneOrder (fillOf 7 0) (after fixed written-then-read .book) → ⊥
 unfolding recount history quiet upd ℕ-discrete below openingOf begunOf verdictOf logIn log2 segmentOf offsetOf sizeOf
 fixed-breaks-the-order O =
-    no-one-order (fillOf 7 0) 0 7 (history fixed (opened 1 1 (stray ∷ [])) written-then-read) refl refl
-    (subst (OneOrder (fillOf 7 0)) (run-book fixed (start (opened 1 1 (stray ∷ []))) written-then-read) O)
+    no-one-order writing (fillOf 7 0) 0 7 (history fixed (opened 1 1 (stray ∷ [])) written-then-read) refl refl
+    (subst (OneOrder (fillOf 7 0)) (run-book writing fixed (start (opened 1 1 (stray ∷ []))) written-then-read) O)
 
 -- ---- 3. One whose steps change nothing breaks demand 3, since no operation ends.
 
@@ -80,6 +82,8 @@ goingOn s mem Answer.Going = outcome (record { state = s; answer = Answer.Going 
 goingOn s mem (Answer.Read v t n) = outcome (record { state = s; answer = Answer.Going }) mem
 goingOn s mem (Answer.Written n) = outcome (record { state = s; answer = Answer.Going }) mem
 goingOn s mem (Answer.Asked t n) = outcome (record { state = s; answer = Answer.Going }) mem
+goingOn s mem (Answer.Found v n) = outcome (record { state = s; answer = Answer.Going }) mem
+goingOn s mem (Answer.Altered v t n) = outcome (record { state = s; answer = Answer.Going }) mem
 goingOn s mem (Answer.Refused r) = outcome (stays s r) mem
 
 abbrev pub idler : Machine State Ask
@@ -114,6 +118,8 @@ hasty s q mem (Op.Asked i c) = stepOf s q mem
 hasty s q mem (Op.Store i v) = idling (hurried 11 s q mem) q i
 hasty s q mem (Op.Write i c) = stepOf s q mem
 hasty s q mem (Op.Marking i k) = stepOf s q mem
+hasty s q mem (Op.Alter i c) = stepOf s q mem
+hasty s q mem (Op.Apply i) = stepOf s q mem
 
 abbrev pub hastyOne : Machine State Ask
 hastyOne = stepping (λ s q mem. hasty s q mem (laneOf s q .op))
@@ -134,6 +140,8 @@ oneMore Answer.Going = Answer.Going
 oneMore (Answer.Read v t n) = Answer.Read v t (n + 1)
 oneMore (Answer.Written n) = Answer.Written (n + 1)
 oneMore (Answer.Asked t n) = Answer.Asked t (n + 1)
+oneMore (Answer.Found v n) = Answer.Found v (n + 1)
+oneMore (Answer.Altered v t n) = Answer.Altered v t (n + 1)
 oneMore (Answer.Refused r) = Answer.Refused r
 
 abbrev pub inventor : Machine State Ask
@@ -153,6 +161,8 @@ endsAgain o q Answer.Begun = o
 endsAgain o q Answer.Going = o
 endsAgain o q (Answer.Read v t n) = o
 endsAgain o q (Answer.Asked t n) = o
+endsAgain o q (Answer.Found v n) = o
+endsAgain o q (Answer.Altered v t n) = o
 endsAgain o q (Answer.Refused r) = o
 endsAgain o q (Answer.Written n) =
     let s = o .stepped .state in

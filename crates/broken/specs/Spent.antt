@@ -17,7 +17,7 @@ use Rattle.demands.specs.Book.{Run, run, start}
 use Rattle.demands.specs.Demand2.{ByTheList}
 use Rattle.demands.specs.Demand3.{PoolSpent}
 use Rattle.broken.specs.Mistakes.{drawsAgain, unchecked}
-use Rattle.broken.specs.Lost.{cell, terms, opened, stray, _then_, writes, reads, steps}
+use Rattle.broken.specs.Lost.{cell, terms, opened, stray, _then_, writes, steps}
 
 -- Process 0 comes to its swap, process 1 writes the cell whole, and process 0 takes its mark back: so with each of n cells.
 abbrev pub lostTo1 : ℕ → List (Call Ask (terms 2 5))

@@ -28,7 +28,7 @@ answered r q = stepOf (r .world .state) q (r .world .memory) .stepped .answer
 abbrev reading : List (Call Ask (terms 1 1))
 reading = writes 0 0 9 then steps 0 9 then reads 0 0 then steps 0 4
 
-pub a-read-takes-five : answered (after 1 1 (0 ∷ []) reading) 0 ≡ Answer.Read 9 true (mostSteps read)
+pub a-read-takes-five : answered (after 1 1 (0 ∷ []) reading) 0 ≡ Answer.Read 9 true (mostSteps (read true))
 unfolding run upd ℕ-discrete below openingOf begunOf verdictOf logIn log2 segmentOf offsetOf sizeOf
 a-read-takes-five = refl
 

@@ -9,7 +9,7 @@ use mathlib.Core.List.{List, [], _∷_, _++_, List·Memᴰ, List·Memᴰ·head, 
 use mathlib.Core.List.{List·Memᴰ·append-cases, Memᴰ·append-left, Memᴰ·append-right}
 use native.Mathlib.Decide.{ℕ-discrete}
 use native.Mathlib.Omega.{arith}
-use Rattle.theory.specs.Array.{Op, read, asked, write, got, done, Writing, valueBy, value, written, answer}
+use Rattle.theory.specs.Array.{Op, read, asked, write, alter, got, done, Writing, valueBy, value, written, answer}
 use Rattle.theory.specs.Order.{Done, Entry, deeds, Orderly, Is, valueIn, writtenIn}
 use Rattle.demands.specs.Book.{nothing, Book}
 use Rattle.demands.specs.Demand2.{OneOrder}
@@ -32,7 +32,7 @@ seen true = 8
 seen false = 9
 
 abbrev reading : Bool → Done
-reading c = record { began = 4; ended = 5; who = 2; op = read; cell = 0; ans = got (seen c) true }
+reading c = record { began = 4; ended = 5; who = 2; op = read true; cell = 0; ans = got (seen c) true }
 
 abbrev endedIn : List Bool → List Done
 endedIn [] = second ∷ first ∷ []
@@ -76,7 +76,7 @@ both-orderly a b ha hb apart ra rb = (
 )
 
 read-orderly : (a b : Done) (c : Bool) → a .began < 2 → b .began < 2 → Orderly filled (both a b)
-    → got (seen c) true ≡ answer filled (deeds (both a b)) read 0 → Orderly filled (put (reading c) 5 ∷ both a b)
+    → got (seen c) true ≡ answer filled (deeds (both a b)) (read true) 0 → Orderly filled (put (reading c) 5 ∷ both a b)
 read-orderly a b c ha hb O r = (
   record {
     right = r;
@@ -163,13 +163,14 @@ same-value f (x ∷ newer) older i h = by (x .op) (h x (List·Memᴰ·head refl)
   where
     by : (o : Op) → (Writing o → ⊥) → valueIn f (newer ++ older) i ≡ valueIn f older i
         → valueBy o (x .cell) i (valueIn f (newer ++ older) i) ≡ valueIn f older i
-    by read n ih = ih
+    by (read t) n ih = ih
     by asked n ih = ih
     by (write v) n ih = absurd (n tt)
+    by (alter a) n ih = absurd (n tt)
 
 -- a new read then gets what was there
 gets : (f : ℕ → ℕ) (newer older : List Entry) → Orderly f (newer ++ older) → ((x : Entry) → List·Memᴰ x newer → Writing (x .op) → ⊥)
-    → (e : Entry) → List·Memᴰ e newer → e .op ≡ read → (v : ℕ) (t : Bool) → e .ans ≡ got v t → v ≡ valueIn f older (e .cell)
+    → (e : Entry) → List·Memᴰ e newer → e .op ≡ read true → (v : ℕ) (t : Bool) → e .ans ≡ got v t → v ≡ valueIn f older (e .cell)
 gets f [] older O h e m k v t a = elim m [ ]
 gets f (x ∷ newer) older O h e m k v t a =
     ⊎-elim own (λ (n : List·Memᴰ e newer). gets f newer older (O .1) (λ y n. h y (List·Memᴰ·tail n)) e n k v t a) (List·Memᴰ·cases-cons m)

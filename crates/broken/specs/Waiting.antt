@@ -29,7 +29,7 @@ use Rattle.broken.specs.Lost.{terms, lent, _then_, writes, reads, steps}
 late : {C : Type 0} {f : ℕ → ℕ} {book : List C → Book} (G : GrowingWith Unfinished f book) (calls more : List C) (w r : Done) (x : ℕ)
     → List·Memᴰ w (book calls .ended) → List·Memᴰ r (book (calls ++ more) .ended)
     → ((d : Done) → List·Memᴰ d (book calls .ended) → d .began ≢ r .began)
-    → w .ans ≡ done → w .cell ≡ r .cell → r .op ≡ read → r .ans ≡ got x false → ⊥
+    → w .ans ≡ done → w .cell ≡ r .cell → r .op ≡ read true → r .ans ≡ got x false → ⊥
 late {f = f} {book} G calls more w r x mw mr new wrote same reads says = by (Theory.new-after-old (G .grows calls more) (W .0) (R .0) (W .1) (R .1))
   where
     W : (e : Entry) × List·Memᴰ e (G .orders calls .order) × Is e w
@@ -49,7 +49,7 @@ late {f = f} {book} G calls more w r x mw mr new wrote same reads says = by (The
         let t : writtenIn (B .older) (R .0 .cell) ≡ true =
         shown f (B .older) (R .0 .cell) (at .1) (W .0) (B .there) (W .2 .cell ∙ same ∙ sym (R .2 .cell))
         (subst (Shows (f (R .0 .cell))) (sym (W .2 .ans ∙ wrote)) tt) in
-        let a : R .0 .ans ≡ answer f (deeds (B .older)) read (R .0 .cell) =
+        let a : R .0 .ans ≡ answer f (deeds (B .older)) (read true) (R .0 .cell) =
         at .0 .right ∙ ap (λ (o : Op). answer f (deeds (B .older)) o (R .0 .cell)) (R .2 .op ∙ reads) in
         let g : got x false ≡ got (valueIn f (B .older) (R .0 .cell)) (writtenIn (B .older) (R .0 .cell)) = sym says ∙ sym (R .2 .ans) ∙ a in
         let k : false ≡ writtenIn (B .older) (R .0 .cell) = cc in
@@ -70,7 +70,7 @@ abbrev wrote : Done
 wrote = record { began = 2; ended = 10; who = 1; op = write 9; cell = 0; ans = done }
 
 abbrev looked : Done
-looked = record { began = 0; ended = 11; who = 0; op = read; cell = 0; ans = got 7 false }
+looked = record { began = 0; ended = 11; who = 0; op = read true; cell = 0; ans = got 7 false }
 
 ended : book calls .ended ≡ wrote ∷ []
 unfolding run upd ℕ-discrete below openingOf begunOf verdictOf logIn log2 segmentOf offsetOf sizeOf

@@ -10,6 +10,7 @@ use Rattle.numbers.specs.Numbers.{directoryWord}
 use Rattle.numbers.specs.declared.Terms.{Terms}
 use Rattle.refusals.specs.declared.Refusal.{Refusal}
 use Rattle.refusals.specs.declared.Refusal.the-variants as Refusal
+use Rattle.lanes.specs.declared.Whose.{Whose}
 use Rattle.lanes.specs.declared.State.{State}
 use Rattle.lanes.specs.Ranges.{laneOf, stateFits}
 use Rattle.steps.specs.declared.Change.{Change}
@@ -96,6 +97,6 @@ SeesOneWord = (q : ℕ) (s s′ : State) (mem mem′ : Memory) → Alike q s s�
 -- NEW NUMBERS: the test on what a step would change is the test on the whole state after it.
 abbrev pub NewNumbers : Type 0
 NewNumbers =
-    (s : State) (q : ℕ) (change : Change) (next : Next) → stateFits s ≡ true → q < s .terms .p → q < length (s .lanes)
-    → numbersFit (s .terms) (s .top) (laneOf s q) change next
-    ≡ stateFits (settled s q (advance next (laneAfter change (laneOf s q))) (topAfter change (s .top)))
+    (w : Whose) (s : State) (q : ℕ) (change : Change) (next : Next) → stateFits w s ≡ true → q < s .terms .p → q < length (s .lanes)
+    → numbersFit w (s .terms) (s .top) (laneOf s q) change next
+    ≡ stateFits w (settled s q (advance next (laneAfter change (laneOf s q))) (topAfter change (s .top)))

@@ -13,9 +13,13 @@ use Rattle.logic.specs.Pick.{pick}
 use Rattle.refusals.specs.declared.Refusal.{Refusal}
 use Rattle.refusals.specs.declared.Refusal.the-variants as Refusal
 use Rattle.lanes.specs.declared.Op.{Op}
+use Rattle.lanes.specs.declared.Whose.{Whose}
+use Rattle.lanes.specs.declared.Whose.the-variants as Whose
 use Rattle.lanes.specs.declared.Lane.{Lane}
 use Rattle.lanes.specs.declared.State.{State}
 use Rattle.lanes.specs.Ranges.{laneOf, stateFits}
+use Rattle.steps.specs.declared.Turn.{Turn}
+use Rattle.steps.specs.Memory.{Memory}
 use Rattle.steps.specs.declared.Next.{Next}
 use Rattle.steps.specs.declared.Next.the-variants as Next
 use Rattle.acts.specs.declared.Acted.{Acted}
@@ -27,7 +31,7 @@ use Rattle.acts.specs.declared.Verdict.{Verdict}
 use Rattle.acts.specs.declared.Verdict.the-variants as Verdict
 use Rattle.acts.specs.Settled.{put-back}
 use Rattle.acts.specs.Calls.{openOf, beginOf, stepOf, openingOf, openedAs, refusedAs, withOp, beginRefusals, cellOf, opOf, begunOf, steppedAs}
-use Rattle.acts.specs.Calls.{answerOf, verdictOf, effectOf, outcome, outcomeAs, turnIn, Outcome}
+use Rattle.acts.specs.Calls.{answerOf, verdictOf, effectOf, outcome, outcomeAs, turnIn, stepBy, Outcome}
 use Rattle.claims.specs.Claims.{OneOpening, OneBeginning, OneStep, RefusedOpen, ClosedBegin, ClosedStep, RefusedBegin, RefusedStep}
 use Rattle.claims.specs.Claims.{closed}
 
@@ -75,24 +79,34 @@ begun-acts fits z top q l i o =
     orders-act l top (beginRefusals fits z q l i) (record { lane = withOp l 0 o; top = top; answer = Answer.Begun })
     (λ r h. let y : _≡_ {A = ℕ} 0 1 = cc in omega arith)
 
+pub begun-harmless : (fits : Bool) (s : State) (q : ℕ) (i : Cell) (o : Op) (r : Refusal)
+    → begunOf fits (s .terms) (s .top) q (laneOf s q) i o .answer ≡ Answer.Refused r
+    → steppedAs s q (begunOf fits (s .terms) (s .top) q (laneOf s q) i o) .state ≡ s
+begun-harmless fits s q i o r h =
+    harmless-by s q (begunOf fits (s .terms) (s .top) q (laneOf s q) i o) (begun-acts fits (s .terms) (s .top) q (laneOf s q) i o) r h
+
 pub a-refused-begin-changes-nothing : RefusedBegin
-a-refused-begin-changes-nothing s q a r h =
-    harmless-by s q (begunOf (stateFits s) (s .terms) (s .top) q (laneOf s q) (cellOf a) (opOf a))
-    (begun-acts (stateFits s) (s .terms) (s .top) q (laneOf s q) (cellOf a) (opOf a)) r h
+a-refused-begin-changes-nothing s q a r h = begun-harmless (stateFits Whose.First s) s q (cellOf a) (opOf a) r h
 
 not-refused : (n : ℕ) (nx : Next) (r : Refusal) → answerOf n nx ≡ Answer.Refused r → ⊥
 not-refused n (Next.Going o) r h = let y : _≡_ {A = ℕ} 0 1 = cc in omega arith
 not-refused n (Next.Read v b) r h = let y : _≡_ {A = ℕ} 0 1 = cc in omega arith
 not-refused n Next.Written r h = let y : _≡_ {A = ℕ} 0 1 = cc in omega arith
+not-refused n (Next.Found v) r h = let y : _≡_ {A = ℕ} 0 1 = cc in omega arith
+not-refused n (Next.Altered v b) r h = let y : _≡_ {A = ℕ} 0 1 = cc in omega arith
 not-refused n (Next.Asked b) r h = let y : _≡_ {A = ℕ} 0 1 = cc in omega arith
 
-pub a-refused-step-changes-nothing : RefusedStep
-a-refused-step-changes-nothing s q mem r = by (verdictOf (stateFits s) (s .terms) (s .top) q (laneOf s q) mem (turnIn s q mem))
+pub stepped-harmless : (w : Whose) (s : State) (q : ℕ) (mem : Memory) (t : Turn) (r : Refusal) → stepBy w s q mem t .stepped .answer ≡ Answer.Refused r
+    → (stepBy w s q mem t .stepped .state ≡ s) × (stepBy w s q mem t .memory ≡ mem)
+stepped-harmless w s q mem t r = by (verdictOf w (stateFits w s) (s .terms) (s .top) q (laneOf s q) mem t)
   where
     by : (v : Verdict) → outcomeAs s q (effectOf (laneOf s q) (s .top) mem v) .stepped .answer ≡ Answer.Refused r
         → (outcomeAs s q (effectOf (laneOf s q) (s .top) mem v) .stepped .state ≡ s) × (outcomeAs s q (effectOf (laneOf s q) (s .top) mem v) .memory ≡ mem)
     by (Verdict.Refused x) h = (put-back s q, refl)
     by (Verdict.Moved ch nx) h = absurd (not-refused (laneOf s q .steps) nx r h)
+
+pub a-refused-step-changes-nothing : RefusedStep
+a-refused-step-changes-nothing s q mem r h = stepped-harmless Whose.First s q mem (turnIn s q mem) r h
 
 pub closed-begin : ClosedBegin
 unfolding begunOf

@@ -9,6 +9,7 @@ use lib.Seq.{getD-set-same}
 use borrow.Author.Tests.{le-leb}
 use Rattle.numbers.specs.Numbers.{poolWords}
 use Rattle.logic.specs.Truth.{and-left, and-right, both-ways}
+use Rattle.lanes.specs.declared.Whose.{Whose}
 use Rattle.lanes.specs.declared.Lane.{Lane}
 use Rattle.lanes.specs.declared.State.{State}
 use Rattle.lanes.specs.Ranges.{rest, laneOf, laneFits, stateFits}
@@ -17,26 +18,26 @@ use Rattle.acts.specs.Calls.{settled}
 use Rattle.acts.specs.Settled.{settled-fits}
 use Rattle.claims.specs.Claims.{NewNumbers}
 
-module _ (s : State) (q : ℕ) (fine : stateFits s ≡ true) (low : q < s .terms .p) (here : q < length (s .lanes)) (l : Lane) (t : ℕ) where
+module _ (w : Whose) (s : State) (q : ℕ) (fine : stateFits w s ≡ true) (low : q < s .terms .p) (here : q < length (s .lanes)) (l : Lane) (t : ℕ) where
   abbrev s′ : State
   s′ = settled s q l t
 
   lane-new : laneOf s′ q ≡ l
   lane-new = getD-set-same (s .lanes) q l rest here
 
-  to : (leb t (poolWords (s .terms .p) (s .terms .m)) && laneFits (s .terms) l) ≡ true → stateFits s′ ≡ true
+  to : (leb t (poolWords (s .terms .p) (s .terms .m)) && laneFits w (s .terms) l) ≡ true → stateFits w s′ ≡ true
   to h =
-      settled-fits s q l t fine
-      (and-right (leb t (poolWords (s .terms .p) (s .terms .m))) (laneFits (s .terms) l) h)
-      (and-left (leb t (poolWords (s .terms .p) (s .terms .m))) (laneFits (s .terms) l) h)
+      settled-fits w s q l t fine
+      (and-right (leb t (poolWords (s .terms .p) (s .terms .m))) (laneFits w (s .terms) l) h)
+      (and-left (leb t (poolWords (s .terms .p) (s .terms .m))) (laneFits w (s .terms) l) h)
 
-  fro : stateFits s′ ≡ true → (leb t (poolWords (s .terms .p) (s .terms .m)) && laneFits (s .terms) l) ≡ true
+  fro : stateFits w s′ ≡ true → (leb t (poolWords (s .terms .p) (s .terms .m)) && laneFits w (s .terms) l) ≡ true
   fro h =
-      rw (le-leb t (poolWords (s .terms .p) (s .terms .m)) (sized (s .terms) t (sizes-of s′ h) .top-high))
-      (sym (ap (laneFits (s .terms)) lane-new) ∙ lane-of s′ h q low)
+      rw (le-leb t (poolWords (s .terms .p) (s .terms .m)) (sized (s .terms) t (sizes-of w s′ h) .top-high))
+      (sym (ap (laneFits w (s .terms)) lane-new) ∙ lane-of w s′ h q low)
 
-  whole : (leb t (poolWords (s .terms .p) (s .terms .m)) && laneFits (s .terms) l) ≡ stateFits s′
+  whole : (leb t (poolWords (s .terms .p) (s .terms .m)) && laneFits w (s .terms) l) ≡ stateFits w s′
   whole = both-ways _ _ to fro
 
 pub new-numbers : NewNumbers
-new-numbers s q change next fine low here = whole s q fine low here _ _
+new-numbers w s q change next fine low here = whole w s q fine low here _ _

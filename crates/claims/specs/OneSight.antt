@@ -76,6 +76,8 @@ module _ (z : Terms) (q : ℕ) (l : Lane) (s s′ : State) (mem mem′ : Memory)
   same-turn (Op.Store i v) e w = refl
   same-turn (Op.Write i c) e w = ap (checkedTurn q l i) (check-same z i c s s′ mem mem′ hl e)
   same-turn (Op.Marking i k) e w = same-marking i k e (w refl)
+  same-turn (Op.Alter i c) e w = refl
+  same-turn (Op.Apply i) e w = refl
 
 -- of the terms, a turn takes p and the fill rule
 module _ (z z′ : Terms) (hp : z .p ≡ z′ .p) (hf : z .first ≡ z′ .first) (hs : z .step ≡ z′ .step) (top q : ℕ) (l : Lane) (inForce : ℕ → ℕ)
@@ -110,6 +112,8 @@ module _ (z z′ : Terms) (hp : z .p ≡ z′ .p) (hf : z .first ≡ z′ .first
   turn-of-three (Op.Store i v) = refl
   turn-of-three (Op.Write i c) = ap (checkedTurn q l i) (check-of-three i c)
   turn-of-three (Op.Marking i k) = marking-of-three i k
+  turn-of-three (Op.Alter i c) = refl
+  turn-of-three (Op.Apply i) = refl
 
 pub a-step-sees-one-word : SeesOneWord
 a-step-sees-one-word q s s′ mem mem′ h =

@@ -16,6 +16,8 @@ use Rattle.numbers.specs.Numbers.{offsetOf}
 use Rattle.numbers.specs.declared.Terms.{Terms}
 use Rattle.refusals.specs.declared.Refusal.the-variants as Refusal
 use Rattle.refusals.specs.Laws.{past}
+use Rattle.lanes.specs.declared.Whose.{Whose}
+use Rattle.lanes.specs.declared.Whose.the-variants as Whose
 use Rattle.lanes.specs.declared.Lane.{Lane}
 use Rattle.lanes.specs.declared.State.{State}
 use Rattle.lanes.specs.Ranges.{rest, laneOf, marksOf, stateFits}
@@ -54,37 +56,42 @@ same-marks (Next.Going o) l = refl
 same-marks (Next.Read v b) l = refl
 same-marks Next.Written l = refl
 same-marks (Next.Asked b) l = refl
+same-marks (Next.Found v) l = refl
+same-marks (Next.Altered v b) l = refl
 
 same-drawn : (nx : Next) (l : Lane) → advance nx l .drawn ≡ l .drawn
 same-drawn (Next.Going o) l = refl
 same-drawn (Next.Read v b) l = refl
 same-drawn Next.Written l = refl
 same-drawn (Next.Asked b) l = refl
+same-drawn (Next.Found v) l = refl
+same-drawn (Next.Altered v b) l = refl
 
 module _ (s : State) (q : ℕ) (mem : Memory) (nx : Next) where
-  abbrev after : Change → State
+  abbrev pub after : Change → State
   after ch = settled s q (advance nx (laneAfter ch (laneOf s q))) (topAfter ch (s .top))
 
   -- the lanes that keep their marks, and the drawn count, where the change leaves them
-  keeps-marks : (ch : Change) → laneAfter ch (laneOf s q) .marks ≡ laneOf s q .marks → (r : ℕ) → laneOf (after ch) r .marks ≡ laneOf s r .marks
+  pub keeps-marks : (ch : Change) → laneAfter ch (laneOf s q) .marks ≡ laneOf s q .marks → (r : ℕ) → laneOf (after ch) r .marks ≡ laneOf s r .marks
   keeps-marks ch e =
       lane-kept (λ (l : Lane). l .marks) s q (advance nx (laneAfter ch (laneOf s q))) (topAfter ch (s .top))
       (same-marks nx (laneAfter ch (laneOf s q)) ∙ e)
 
-  keeps-drawn : (ch : Change) → laneAfter ch (laneOf s q) .drawn ≡ laneOf s q .drawn → laneOf (after ch) q .drawn ≡ laneOf s q .drawn
+  pub keeps-drawn : (ch : Change) → laneAfter ch (laneOf s q) .drawn ≡ laneOf s q .drawn → laneOf (after ch) q .drawn ≡ laneOf s q .drawn
   keeps-drawn ch e =
       lane-kept (λ (l : Lane). l .drawn) s q (advance nx (laneAfter ch (laneOf s q))) (topAfter ch (s .top))
       (same-drawn nx (laneAfter ch (laneOf s q)) ∙ e) q
 
-  other : (ch : Change) (r : ℕ) → r ≢ q → laneOf (after ch) r ≡ laneOf s r
+  pub other : (ch : Change) (r : ℕ) → r ≢ q → laneOf (after ch) r ≡ laneOf s r
   other ch r k = getD-set-other (s .lanes) q r (advance nx (laneAfter ch (laneOf s q))) rest k
 
-  lengths : (ch : Change) → (length (memoryAfter ch mem .readings) ≡ length (mem .readings)) × (length (memoryAfter ch mem .links) ≡ length (mem .links))
+  pub lengths : (ch : Change) → (length (memoryAfter ch mem .readings) ≡ length (mem .readings)) × (length (memoryAfter ch mem .links) ≡ length (mem .links))
       × (length (memoryAfter ch mem .directory) ≡ length (mem .directory)) × (length (memoryAfter ch mem .pool) ≡ length (mem .pool))
   lengths Change.Nothing = (refl, refl, refl, refl)
   lengths (Change.Reading i v) = (length-set (mem .readings) i v, refl, refl, refl)
   lengths (Change.Link i x) = (refl, length-set (mem .links) i x, refl, refl)
   lengths (Change.Directory k x) = (refl, refl, length-set (mem .directory) k x, refl)
+  lengths (Change.Both i v x) = (length-set (mem .readings) i v, length-set (mem .links) i x, refl, refl)
   lengths (Change.Mark start n x) = (refl, refl, refl, length-set (mem .pool) (start + offsetOf (n .0)) x)
   lengths (Change.Marks n) = (refl, refl, refl, refl)
   lengths (Change.Top t n) = (refl, refl, refl, refl)
@@ -113,10 +120,10 @@ none : {A : Type 0} → _≡_ {A = ℕ} 0 1 → A
 none h = absurd (omega arith)
 
 -- a step that moves takes its turn
-module _ (z : Terms) (top : ℕ) (l : Lane) (ch : Change) (nx : Next) where
-  decides : (t : Turn) → decided z top l t ≡ Verdict.Moved ch nx → t ≡ Turn.Turned ch nx
+module _ (w : Whose) (z : Terms) (top : ℕ) (l : Lane) (ch : Change) (nx : Next) where
+  pub decides : (t : Turn) → decided w z top l t ≡ Verdict.Moved ch nx → t ≡ Turn.Turned ch nx
   decides Turn.Outside e = none cc
-  decides (Turn.Turned d m) e = by (numbersFit z top l d m) e
+  decides (Turn.Turned d m) e = by (numbersFit w z top l d m) e
     where
       by : (b : Bool) → pick (not b) (Verdict.Refused Refusal.OutOfRange) (Verdict.Moved d m) ≡ Verdict.Moved ch nx → Turn.Turned d m ≡ Turn.Turned ch nx
       by true h = let f : d ≡ ch = cc in let g : m ≡ nx = cc in rw (f, g)
@@ -124,19 +131,19 @@ module _ (z : Terms) (top : ℕ) (l : Lane) (ch : Change) (nx : Next) where
 
 pub a-step-changes-one-word : ChangesOneWord
 unfolding verdictOf
-a-step-changes-one-word s q mem = by (verdictOf (stateFits s) (s .terms) (s .top) q (laneOf s q) mem (turnIn s q mem)) refl
+a-step-changes-one-word s q mem = by (verdictOf Whose.First (stateFits Whose.First s) (s .terms) (s .top) q (laneOf s q) mem (turnIn s q mem)) refl
   where
     w : Word
     w = touched (s .terms) q (mem .directory) (laneOf s q .op)
 
-    takes : (ch : Change) (nx : Next) → verdictOf (stateFits s) (s .terms) (s .top) q (laneOf s q) mem (turnIn s q mem) ≡ Verdict.Moved ch nx
+    takes : (ch : Change) (nx : Next) → verdictOf Whose.First (stateFits Whose.First s) (s .terms) (s .top) q (laneOf s q) mem (turnIn s q mem) ≡ Verdict.Moved ch nx
         → turnIn s q mem ≡ Turn.Turned ch nx
     takes ch nx e =
-        decides (s .terms) (s .top) (laneOf s q) ch nx (turnIn s q mem)
-        (past Verdict.Refused (stepRefusals (stateFits s) (s .terms) mem q (laneOf s q)) (decided (s .terms) (s .top) (laneOf s q) (turnIn s q mem))
+        decides Whose.First (s .terms) (s .top) (laneOf s q) ch nx (turnIn s q mem)
+        (past Verdict.Refused (stepRefusals (stateFits Whose.First s) (s .terms) mem q (laneOf s q)) (decided Whose.First (s .terms) (s .top) (laneOf s q) (turnIn s q mem))
         (Verdict.Moved ch nx) (λ r h. none cc) e .1)
 
-    by : (v : Verdict) → verdictOf (stateFits s) (s .terms) (s .top) q (laneOf s q) mem (turnIn s q mem) ≡ v
+    by : (v : Verdict) → verdictOf Whose.First (stateFits Whose.First s) (s .terms) (s .top) q (laneOf s q) mem (turnIn s q mem) ≡ v
         → Changed q w s (outcomeAs s q (effectOf (laneOf s q) (s .top) mem v) .stepped .state) mem
         (outcomeAs s q (effectOf (laneOf s q) (s .top) mem v) .memory)
     by (Verdict.Refused x) e = subst (λ (y : State). Changed q w s y mem mem) (sym (put-back s q)) (unchanged q w s mem)

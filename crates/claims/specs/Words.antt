@@ -22,3 +22,5 @@ pastCheck (Op.Asked i c) = false
 pastCheck (Op.Store i v) = false
 pastCheck (Op.Write i c) = false
 pastCheck (Op.Marking i k) = true
+pastCheck (Op.Alter i c) = false
+pastCheck (Op.Apply i) = false

@@ -5,7 +5,7 @@ use mathlib.Core.List.{List, [], _∷_}
 use Rattle.numbers.specs.Cells.{indexOf}
 use Rattle.acts.specs.Worlds.{Machine, Call, begin, step, misfit, World, answerTo, worldAfter}
 use Rattle.theory.specs.Base.{upd}
-use Rattle.theory.specs.Array.{Op, read, asked, write, Ans, got, told, done}
+use Rattle.theory.specs.Array.{Op, read, asked, write, alter, Ans, got, found, altered, told, done}
 use Rattle.theory.specs.Order.{Done}
 use Rattle.demands.specs.Types.{Terms, Answer}
 use Rattle.demands.specs.Kinds.{Kind}
@@ -27,11 +27,12 @@ pub record Book : Type 0 where
 abbrev pub blank : Book
 blank = record { now = 0; doing = λ q. nothing; ended = []; cells = λ i. 0; procs = λ q. 0 }
 
--- Set to 1 by a write.
+-- Set to 1 by an operation that counts as a write.
 abbrev pub tallied : (ℕ → ℕ) → ℕ → Op → ℕ → ℕ
-tallied f k read = f
+tallied f k (read t) = f
 tallied f k asked = f
 tallied f k (write v) = upd f k 1
+tallied f k (alter a) = upd f k 1
 
 -- A call that begins nothing and is no step of an operation.
 abbrev pub passed : Book → Book
@@ -68,6 +69,8 @@ noteBegin b q o i Answer.Going = passed b
 noteBegin b q o i (Answer.Read v t n) = passed b
 noteBegin b q o i (Answer.Written n) = passed b
 noteBegin b q o i (Answer.Asked t n) = passed b
+noteBegin b q o i (Answer.Found v n) = passed b
+noteBegin b q o i (Answer.Altered v t n) = passed b
 noteBegin b q o i (Answer.Refused r) = passed b
 
 abbrev pub noteStep : Book → ℕ → Answer → Book
@@ -76,6 +79,8 @@ noteStep b q Answer.Going = goesOn b q (b .doing q)
 noteStep b q (Answer.Read v t n) = ends b q (b .doing q) (got v t)
 noteStep b q (Answer.Written n) = ends b q (b .doing q) done
 noteStep b q (Answer.Asked t n) = ends b q (b .doing q) (told t)
+noteStep b q (Answer.Found v n) = ends b q (b .doing q) (found v)
+noteStep b q (Answer.Altered v t n) = ends b q (b .doing q) (altered v t)
 noteStep b q (Answer.Refused r) = passed b
 
 -- A run: the world after any calls, one after the other, and the book kept of them. A cell is written down by its index.

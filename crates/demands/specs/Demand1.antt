@@ -8,7 +8,7 @@ use Rattle.refusals.specs.Orders.{Rule, orders}
 use Rattle.lanes.specs.Ranges.{laneOf, stateFits}
 use Rattle.acts.specs.Calls.{openRefusals, beginRefusals, stepRefusals, turnRefusals}
 use Rattle.acts.specs.Worlds.{Machine, Reply, Result}
-use Rattle.demands.specs.Types.{Refusal, Cell, Terms, State, Memory, Answer, Opening, Turn}
+use Rattle.demands.specs.Types.{Refusal, Cell, Terms, Whose, State, Memory, Answer, Opening, Turn}
 use Rattle.demands.specs.Kinds.{Kind}
 
 -- What an answer says of a call: it is refused, or an operation begins, or an operation takes a step.
@@ -23,19 +23,21 @@ said Answer.Going = steps
 said (Answer.Read v t n) = steps
 said (Answer.Written n) = steps
 said (Answer.Asked t n) = steps
+said (Answer.Found v n) = steps
+said (Answer.Altered v t n) = steps
 said (Answer.Refused r) = refused r
 
 -- Begin: 9 (state), 4, 6, 5.
-abbrev pub beginTable : State → ℕ → Cell → List Rule
-beginTable s q i = beginRefusals (stateFits s) (s .terms) q (laneOf s q) i
+abbrev pub beginTable : Whose → State → ℕ → Cell → List Rule
+beginTable w s q i = beginRefusals (stateFits w s) (s .terms) q (laneOf s q) i
 
 -- Step: 9 (state), 8, 4, 7,
-abbrev pub stepTable : State → ℕ → Memory → List Rule
-stepTable s q mem = stepRefusals (stateFits s) (s .terms) mem q (laneOf s q)
+abbrev pub stepTable : Whose → State → ℕ → Memory → List Rule
+stepTable w s q mem = stepRefusals (stateFits w s) (s .terms) mem q (laneOf s q)
 
 -- then 9 (word, draw or new number): what the step list says for this step can't be done within the ranges.
-abbrev pub wordTable : State → ℕ → Turn → List Rule
-wordTable s q t = turnRefusals (s .terms) (s .top) (laneOf s q) t
+abbrev pub wordTable : Whose → State → ℕ → Turn → List Rule
+wordTable w s q t = turnRefusals w (s .terms) (s .top) (laneOf s q) t
 
 abbrev pub refusedOn : {S : Type 0} → S → Refusal → Reply S
 refusedOn s r = record { state = s; answer = Answer.Refused r }
@@ -46,9 +48,9 @@ unchanged s mem r = record { state = s; answer = Answer.Refused r; memory = mem 
 pub record Demand1 {S A : Type 0} (K : Kind S A) (M : Machine S A) : Type 0 where
   -- The first refusal that holds is given, and none where none holds. Open: 1, 2, 3.
   pub open-table : (z : Terms) (mem : Memory) → M .opens z mem .opening ≡ orders Opening.Refused (openRefusals z mem) Opening.Open
-  pub begin-table : (s : S) (q : ℕ) (a : A) → said (M .begin s q a .answer) ≡ orders refused (beginTable (K .grid s) q (K .cell a)) begins
+  pub begin-table : (s : S) (q : ℕ) (a : A) → said (M .begin s q a .answer) ≡ orders refused (beginTable (K .whose) (K .grid s) q (K .cell a)) begins
   pub step-table : (s : S) (q : ℕ) (mem : Memory) → said (M .step s q mem .answer)
-      ≡ orders refused (stepTable (K .grid s) q mem) (orders refused (wordTable (K .grid s) q (K .turn s q mem)) steps)
+      ≡ orders refused (stepTable (K .whose) (K .grid s) q mem) (orders refused (wordTable (K .whose) (K .grid s) q (K .turn s q mem)) steps)
   -- A refused call returns the state as received, and every lent word as it was. (Open gives no state, and is lent nothing to change.)
   pub begin-refused : (s : S) (q : ℕ) (a : A) (r : Refusal) → M .begin s q a .answer ≡ Answer.Refused r → M .begin s q a ≡ refusedOn s r
   pub step-refused : (s : S) (q : ℕ) (mem : Memory) (r : Refusal) → M .step s q mem .answer ≡ Answer.Refused r → M .step s q mem ≡ unchanged s mem r

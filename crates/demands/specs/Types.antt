@@ -11,6 +11,8 @@ pub use Rattle.lanes.specs.declared.Marking.{Marking}
 pub use Rattle.lanes.specs.declared.Marking.the-variants as Marking
 pub use Rattle.lanes.specs.declared.Op.{Op}
 pub use Rattle.lanes.specs.declared.Op.the-variants as Op
+pub use Rattle.lanes.specs.declared.Whose.{Whose}
+pub use Rattle.lanes.specs.declared.Whose.the-variants as Whose
 pub use Rattle.lanes.specs.declared.Lane.{Lane}
 pub use Rattle.lanes.specs.declared.State.{State}
 pub use Rattle.steps.specs.Memory.{Memory}
@@ -34,3 +36,9 @@ pub use Rattle.acts.specs.declared.Stepped.{Stepped}
 pub use Rattle.acts.specs.declared.Acted.{Acted}
 pub use Rattle.acts.specs.declared.Verdict.{Verdict}
 pub use Rattle.acts.specs.declared.Verdict.the-variants as Verdict
+pub use Rattle.second.specs.declared.Act.{Act}
+pub use Rattle.second.specs.declared.Act.the-variants as Act
+pub use Rattle.second.specs.declared.Hand.{Hand}
+pub use Rattle.second.specs.declared.Altering.{Altering}
+pub use Rattle.second.specs.declared.Request.{Request}
+pub use Rattle.second.specs.declared.Request.the-variants as Request

@@ -9,6 +9,7 @@ use acts::Stepped;
 use acts::begins;
 use acts::opens;
 use lanes::State;
+use lanes::Whose;
 use numbers::Mark;
 use numbers::Process;
 use numbers::Terms;
@@ -43,7 +44,7 @@ pub fn begin(s: State, q: Process, a: Ask) -> Stepped
     let end = begins::lanes_below(fits, z.p);
     let mut i: usize = 0;
     while i < end {
-        fits = logic::both(fits, lanes::lane_fits(z, t.lanes[i]));
+        fits = logic::both(fits, lanes::lane_fits(Whose::First, z, t.lanes[i]));
         i = i + 1;
     }
     let k = begins::lane_of(q);
@@ -79,7 +80,7 @@ pub fn step(
     let end = begins::lanes_below(fits, z.p);
     let mut i: usize = 0;
     while i < end {
-        fits = logic::both(fits, lanes::lane_fits(z, t.lanes[i]));
+        fits = logic::both(fits, lanes::lane_fits(Whose::First, z, t.lanes[i]));
         i = i + 1;
     }
     let k = begins::lane_of(q);

@@ -9,6 +9,7 @@ use lib.Dec.{ltb, leb}
 use borrow.Author.Tests.{ltb-true, not-false, lt-ltb, le-ltb, le-leb, lt-leb}
 use Rattle.numbers.specs.Numbers.{mostSegments, mostSteps, mostMarks, poolWords}
 use Rattle.numbers.specs.declared.Process.{Process}
+use Rattle.logic.specs.Pick.{pick}
 use Rattle.refusals.specs.declared.Refusal.{Refusal}
 use Rattle.refusals.specs.declared.Refusal.the-variants as Refusal
 use Rattle.numbers.specs.declared.Cell.{Cell}
@@ -20,6 +21,8 @@ use Rattle.steps.specs.Inner.{handed}
 use Rattle.lanes.specs.declared.Check.{Check}
 use Rattle.lanes.specs.declared.Op.{Op}
 use Rattle.lanes.specs.declared.Op.the-variants as Op
+use Rattle.lanes.specs.declared.Whose.{Whose}
+use Rattle.lanes.specs.declared.Whose.the-variants as Whose
 use Rattle.lanes.specs.declared.Lane.{Lane}
 use Rattle.lanes.specs.Ranges.{idle, laneFits, sizesFit}
 use Rattle.lanes.specs.Laws.{lane-steps}
@@ -39,7 +42,7 @@ use Rattle.acts.specs.declared.Verdict.{Verdict}
 use Rattle.acts.specs.declared.Verdict.the-variants as Verdict
 use Rattle.acts.specs.Calls.{lengthsFit, refusedAs, advance, answerOf, numbersFit, decided, verdictOf, effect, actOf}
 use Rattle.acts.specs.Inner.{namedIn, named, Judged}
-use Rattle.judged.specs.Inner.{changeFits, markingGoes, opGoes, nextFits, newFits, Told, movedTo}
+use Rattle.judged.specs.Inner.{changeFits, markingGoes, opGoes, nextFits, newFits, decidedBy, Told, movedTo}
 use Rattle.judged.proofs.NewLaws.{told}
 
 -- arms of matches: what is known of the constructor is known of the value
@@ -95,23 +98,29 @@ module _ (z : Terms) (l : Lane) (ch : Change) (nx : Next) (b : Bool) (e : b ≡ 
 pub few-steps : (ch : Change) (l r : Lane) → l .steps ≤ mostSteps → r ≡ laneAfter ch l → r .steps ≤ mostSteps
 few-steps ch l r h e = let k : r .steps ≡ l .steps = ap (λ (x : Lane). x .steps) e ∙ same-steps ch l in omega arith
 
-module _ (z : Terms) (top : ℕ) (l : Lane) (t : Turn) where
-  pub outside : t ≡ Turn.Outside → Verdict.Refused Refusal.OutOfRange ≡ decided z top l t
+module _ (z : Terms) (l : Lane) (t : Turn) where
+  pub outside : t ≡ Turn.Outside → Verdict.Refused Refusal.OutOfRange ≡ decidedBy z l t
   outside e = rw e
 
-  module _ (ch : Change) (nx : Next) (e : t ≡ Turn.Turned ch nx) (b : Bool) (f : b ≡ newFits z l ch nx) (known : Told z top l t) where
-    all : b ≡ numbersFit z top l ch nx
-    all = f ∙ known ch nx e
+  module _ (ch : Change) (nx : Next) (e : t ≡ Turn.Turned ch nx) (b : Bool) (f : b ≡ newFits z l ch nx) where
+    pub stays : b ≡ true → Verdict.Moved ch nx ≡ decidedBy z l t
+    stays h = rw e (simp (sym f ∙ h))
 
-    pub stays : b ≡ true → Verdict.Moved ch nx ≡ decided z top l t
-    stays h = rw e (simp (sym all ∙ h))
+    pub leaves : b ≡ false → Verdict.Refused Refusal.OutOfRange ≡ decidedBy z l t
+    leaves h = rw e (simp (sym f ∙ h))
 
-    pub leaves : b ≡ false → Verdict.Refused Refusal.OutOfRange ≡ decided z top l t
-    leaves h = rw e (simp (sym all ∙ h))
+-- where the few tests come to all of them, they decide as the definition does
+pub decided-as : (w : Whose) (z : Terms) (top : ℕ) (l : Lane) (t : Turn) → Told w z top l t → decidedBy z l t ≡ decided w z top l t
+decided-as w z top l Turn.Outside known = refl
+decided-as w z top l (Turn.Turned ch nx) known = rw (known ch nx refl) (by (numbersFit w z top l ch nx))
+  where
+    by : (b : Bool) → pick b (Verdict.Moved ch nx) (Verdict.Refused Refusal.OutOfRange) ≡ pick (not b) (Verdict.Refused Refusal.OutOfRange) (Verdict.Moved ch nx)
+    by true = refl
+    by false = refl
 
-module _ (fits : Bool) (z : Terms) (top q : ℕ) (l : Lane) (mem : Memory) (t : Turn) where
+module _ (w : Whose) (fits : Bool) (z : Terms) (top q : ℕ) (l : Lane) (mem : Memory) (t : Turn) where
   abbrev judged : Verdict
-  judged = verdictOf fits z top q l mem t
+  judged = verdictOf w fits z top q l mem t
 
   pub judged-9 : not fits ≡ true → Verdict.Refused Refusal.OutOfRange ≡ judged
   unfolding verdictOf
@@ -135,48 +144,48 @@ module _ (fits : Bool) (z : Terms) (top q : ℕ) (l : Lane) (mem : Memory) (t : 
         unfolding verdictOf
         judged-7 h = rw (fine, fit, lt-ltb _ _ low, sym at ∙ h)
 
-        pub judged-on : (u : Turn) (r : Verdict) → i ≡ false → u ≡ t → r ≡ decided z top l u → r ≡ judged
+        pub judged-on : (u : Turn) (r : Verdict) → i ≡ false → u ≡ t → r ≡ decidedBy z l u → Told w z top l u → r ≡ judged
         unfolding verdictOf
-        judged-on u r h e f = rw (fine, fit, lt-ltb _ _ low, sym at ∙ h) (f ∙ ap (decided z top l) e)
+        judged-on u r h e f known = rw (fine, fit, lt-ltb _ _ low, sym at ∙ h) (f ∙ decided-as w z top l u known ∙ ap (decided w z top l) e)
 
-module _ (fits : Bool) (z : Terms) (top q : ℕ) (l : Lane) (seen : ℕ) (j : Judged fits z top q l seen) (fine : not fits ≡ false) where
+module _ (w : Whose) (fits : Bool) (z : Terms) (top q : ℕ) (l : Lane) (seen : ℕ) (j : Judged w fits z top q l seen) (fine : not fits ≡ false) where
   pub sizes-known : sizesFit z top ≡ true
   sizes-known = j .sizes (not-false _ fine)
 
-  pub lane-known : q < z .p → laneFits z l ≡ true
+  pub lane-known : q < z .p → laneFits w z l ≡ true
   lane-known h = j .lane (not-false _ fine) h
 
   pub told-known : (readings links directory pool : List ℕ) (t : Turn) → q < z .p
-      → t ≡ turnOf z top q l (handed seen) (memory readings links directory pool) → Told z top l t
+      → t ≡ turnOf z top q l (handed seen) (memory readings links directory pool) → Told w z top l t
   told-known readings links directory pool t h e =
-      told z top l sizes-known (lane-known h) q seen (memory readings links directory pool) t (j .marks (not-false _ fine) h) e
+      told w z top l sizes-known (lane-known h) q seen (memory readings links directory pool) t (j .marks (not-false _ fine) h) e
 
 pub moved-is : (l l₁ l₂ : Lane) (top t : ℕ) (ch : Change) (nx : Next) (a : Answer) → l₁ ≡ laneAfter ch l → l₂ ≡ advance nx l₁
     → t ≡ topAfter ch top → a ≡ answerOf (l .steps) nx → record { lane = l₂; top = t; answer = a } ≡ movedTo l top ch nx
 moved-is l l₁ l₂ top t ch nx a e f g h = rw (h, g, f, e)
 
-module _ (fits : Bool) (z : Terms) (top q : ℕ) (l : Lane) (mem : Memory) (t : Turn) (v : Verdict) (e : v ≡ verdictOf fits z top q l mem t) where
+module _ (w : Whose) (fits : Bool) (z : Terms) (top q : ℕ) (l : Lane) (mem : Memory) (t : Turn) (v : Verdict) (e : v ≡ verdictOf w fits z top q l mem t) where
   module _ (r : Acted) where
-    pub act-refused : (x : Refusal) → v ≡ Verdict.Refused x → r ≡ refusedAs l top x → effect r mem ≡ actOf fits z top q l mem t
+    pub act-refused : (x : Refusal) → v ≡ Verdict.Refused x → r ≡ refusedAs l top x → effect r mem ≡ actOf w fits z top q l mem t
     act-refused x h f = rw (← e, h, f)
 
     pub act-moved : (ch : Change) (nx : Next) (mem′ : Memory) → v ≡ Verdict.Moved ch nx → mem′ ≡ memoryAfter ch mem
-        → r ≡ movedTo l top ch nx → effect r mem′ ≡ actOf fits z top q l mem t
+        → r ≡ movedTo l top ch nx → effect r mem′ ≡ actOf w fits z top q l mem t
     act-moved ch nx mem′ h f g = rw (← e, h, f, g)
 
   -- a step that moves had a lane in its range
-  pub moved-fits : (ch : Change) (nx : Next) (seen : ℕ) → Judged fits z top q l seen → v ≡ Verdict.Moved ch nx → l .steps ≤ mostSteps
+  pub moved-fits : (ch : Change) (nx : Next) (seen : ℕ) → Judged w fits z top q l seen → v ≡ Verdict.Moved ch nx → l .steps ≤ mostSteps
   unfolding verdictOf
   moved-fits ch nx seen j h = by fits refl (ltb q (z .p)) refl (lengthsFit z mem) refl
     where
-      moves : Verdict.Moved ch nx ≡ verdictOf fits z top q l mem t
+      moves : Verdict.Moved ch nx ≡ verdictOf w fits z top q l mem t
       moves = sym h ∙ e
 
       none : (x : Refusal) → Verdict.Moved ch nx ≡ Verdict.Refused x → l .steps ≤ mostSteps
       none x k = absurd (let y : _≡_ {A = ℕ} 0 1 = cc in omega arith)
 
       by : (b : Bool) → fits ≡ b → (c : Bool) → ltb q (z .p) ≡ c → (d : Bool) → lengthsFit z mem ≡ d → l .steps ≤ mostSteps
-      by true f true g d i = lane-steps z l (j .lane f (ltb-true q (z .p) g))
+      by true f true g d i = lane-steps w z l (j .lane f (ltb-true q (z .p) g))
       by true f false g true i = none Refusal.NoSuchProcess (moves ∙ rw (f, i, g))
       by true f false g false i = none Refusal.OtherLengths (moves ∙ rw (f, i))
       by false f c g d i = none Refusal.OutOfRange (moves ∙ rw f)

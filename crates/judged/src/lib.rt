@@ -6,9 +6,9 @@ ghost use Rattle.steps.specs.Memory.{memory};
 ghost use Rattle.steps.specs.Changes.{laneAfter, topAfter};
 ghost use Rattle.steps.specs.Steps.{turnOf};
 ghost use Rattle.steps.specs.Inner.{handed};
-ghost use Rattle.acts.specs.Calls.{advance, answerOf, decided, verdictOf, effect, actOf};
+ghost use Rattle.acts.specs.Calls.{advance, answerOf, verdictOf, effect, actOf};
 ghost use Rattle.acts.specs.Inner.{namedIn, named, Judged};
-ghost use Rattle.judged.specs.Inner.{changeFits, markingGoes, opGoes, nextFits, newFits, Told, movedTo};
+ghost use Rattle.judged.specs.Inner.{changeFits, markingGoes, opGoes, nextFits, newFits, decidedBy, movedTo};
 use acts::Acted;
 use acts::Answer;
 use acts::Verdict;
@@ -18,6 +18,7 @@ use lanes::Check;
 use lanes::Lane;
 use lanes::Marking;
 use lanes::Op;
+use lanes::Whose;
 use numbers::Mark;
 use numbers::Process;
 use numbers::SEGMENTS;
@@ -51,6 +52,8 @@ pub fn named(o: Op) -> Process
         Op::Store(_, _) => Process(0),
         Op::Write(_, c) => named_in(c),
         Op::Marking(_, _) => Process(0),
+        Op::Alter(_, c) => named_in(c),
+        Op::Apply(_) => Process(0),
     }
 }
 
@@ -63,6 +66,7 @@ fn lane_after(l: Lane, change: Change) -> Lane
         Change::Reading(_, _) => l,
         Change::Link(_, _) => l,
         Change::Directory(_, _) => l,
+        Change::Both(_, _, _) => l,
         Change::Mark(_, _, _) => l,
         Change::Marks(n) => Lane {
             marks: n,
@@ -87,6 +91,7 @@ fn top_after(top: u32, change: Change) -> u32
         Change::Reading(_, _) => top,
         Change::Link(_, _) => top,
         Change::Directory(_, _) => top,
+        Change::Both(_, _, _) => top,
         Change::Mark(_, _, _) => top,
         Change::Marks(_) => top,
         Change::Top(n, _) => n,
@@ -113,6 +118,8 @@ fn advance(l: Lane, next: Next) -> Lane
         Next::Read(_, _) => with_op(l, 0, Op::Idle),
         Next::Written => with_op(l, 0, Op::Idle),
         Next::Asked(_) => with_op(l, 0, Op::Idle),
+        Next::Found(_) => with_op(l, 0, Op::Idle),
+        Next::Altered(_, _) => with_op(l, 0, Op::Idle),
     }
 }
 
@@ -125,6 +132,8 @@ fn answer_of(steps: u8, next: Next) -> Answer
         Next::Read(v, b) => Answer::Read(v, b, steps + 1),
         Next::Written => Answer::Written(steps + 1),
         Next::Asked(b) => Answer::Asked(b, steps + 1),
+        Next::Found(v) => Answer::Found(v, steps + 1),
+        Next::Altered(v, b) => Answer::Altered(v, b, steps + 1),
     }
 }
 
@@ -136,6 +145,7 @@ fn change_fits(z: Terms, change: Change) -> bool
         Change::Reading(_, _) => true,
         Change::Link(_, _) => true,
         Change::Directory(_, _) => true,
+        Change::Both(_, _, _) => true,
         Change::Mark(_, _, _) => true,
         Change::Marks(n) => n as usize <= numbers::most_marks(z.m),
         Change::Top(top, n) => {
@@ -174,6 +184,8 @@ fn op_goes(z: Terms, o: Op) -> bool
         Op::Store(_, _) => true,
         Op::Write(_, _) => true,
         Op::Marking(_, k) => marking_goes(z, k),
+        Op::Alter(_, _) => true,
+        Op::Apply(_) => true,
     }
 }
 
@@ -185,6 +197,8 @@ fn next_fits(z: Terms, steps: u8, o: Op, next: Next) -> bool
         Next::Read(_, _) => true,
         Next::Written => true,
         Next::Asked(_) => true,
+        Next::Found(_) => true,
+        Next::Altered(_, _) => true,
     }
 }
 
@@ -201,9 +215,9 @@ fn new_fits(z: Terms, l: Lane, change: Change, next: Next) -> bool
     }
 }
 
-fn decided(z: Terms, top: u32, l: Lane, t: Turn) -> Verdict
-    requires { ⌜ Told z top l t ⌝ }
-    ensures { λ r. ⌜ r ≡ decided z top l t ⌝ }
+// What a turn comes to, by the few tests; for a turn of this lane they come to all of them.
+pub fn decided(z: Terms, l: Lane, t: Turn) -> Verdict
+    ensures { λ r. ⌜ r ≡ decidedBy z l t ⌝ }
 {
     match t {
         Turn::Outside => Verdict::Refused(Refusal::OutOfRange),
@@ -230,8 +244,8 @@ fn verdict_of(
     directory: &[u32],
     pool: &[Mark],
 ) -> Verdict
-    requires { ⌜ Judged fits z top (q .0) l seen ⌝ }
-    ensures { λ r. ⌜ r ≡ verdictOf fits z top (q .0) l (memory (now (readings .entry)) (now (links .entry)) (now (directory .entry)) (now (pool .entry))) (turnOf z top (q .0) l (handed seen) (memory (now (readings .entry)) (now (links .entry)) (now (directory .entry)) (now (pool .entry)))) ⌝ }
+    requires { ⌜ Judged Whose.First fits z top (q .0) l seen ⌝ }
+    ensures { λ r. ⌜ r ≡ verdictOf Whose.First fits z top (q .0) l (memory (now (readings .entry)) (now (links .entry)) (now (directory .entry)) (now (pool .entry))) (turnOf z top (q .0) l (handed seen) (memory (now (readings .entry)) (now (links .entry)) (now (directory .entry)) (now (pool .entry)))) ⌝ }
 {
     if !fits {
         return Verdict::Refused(Refusal::OutOfRange);
@@ -247,10 +261,11 @@ fn verdict_of(
         return Verdict::Refused(Refusal::NothingUnderWay);
     }
     let t = turns::turn_of(z, top, q, l, seen, readings, links, directory, pool);
-    decided(z, top, l, t)
+    decided(z, l, t)
 }
 
-fn moved(l: Lane, top: u32, change: Change, next: Next) -> Acted
+// The lane and the top after a step that moves, and its answer.
+pub fn moved(l: Lane, top: u32, change: Change, next: Next) -> Acted
     requires { ⌜ l .steps ≤ mostSteps ⌝ }
     ensures { λ r. ⌜ r ≡ movedTo l top change next ⌝ }
 {
@@ -276,8 +291,8 @@ pub fn act(
     directory: &mut [u32],
     pool: &mut [Mark],
 ) -> Acted
-    requires { ⌜ Judged fits z top (q .0) l seen ⌝ }
-    ensures { λ r. ⌜ effect r (memory (now (readings .exit)) (now (links .exit)) (now (directory .exit)) (now (pool .exit))) ≡ actOf fits z top (q .0) l (memory (now (readings .entry)) (now (links .entry)) (now (directory .entry)) (now (pool .entry))) (turnOf z top (q .0) l (handed seen) (memory (now (readings .entry)) (now (links .entry)) (now (directory .entry)) (now (pool .entry)))) ⌝ }
+    requires { ⌜ Judged Whose.First fits z top (q .0) l seen ⌝ }
+    ensures { λ r. ⌜ effect r (memory (now (readings .exit)) (now (links .exit)) (now (directory .exit)) (now (pool .exit))) ≡ actOf Whose.First fits z top (q .0) l (memory (now (readings .entry)) (now (links .entry)) (now (directory .entry)) (now (pool .entry))) (turnOf z top (q .0) l (handed seen) (memory (now (readings .entry)) (now (links .entry)) (now (directory .entry)) (now (pool .entry)))) ⌝ }
 {
     let v = verdict_of(fits, z, top, q, l, seen, readings, links, directory, pool);
     match v {

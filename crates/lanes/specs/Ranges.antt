@@ -17,6 +17,8 @@ use Rattle.lanes.specs.declared.Marking.{Marking}
 use Rattle.lanes.specs.declared.Marking.the-variants as Marking
 use Rattle.lanes.specs.declared.Op.{Op}
 use Rattle.lanes.specs.declared.Op.the-variants as Op
+use Rattle.lanes.specs.declared.Whose.{Whose}
+use Rattle.lanes.specs.declared.Whose.the-variants as Whose
 use Rattle.lanes.specs.declared.Lane.{Lane}
 use Rattle.lanes.specs.declared.State.{State}
 
@@ -40,6 +42,31 @@ idle (Op.Asked i c) = false
 idle (Op.Store i v) = false
 idle (Op.Write i c) = false
 idle (Op.Marking i k) = false
+idle (Op.Alter i c) = false
+idle (Op.Apply i) = false
+
+-- Whose operations a lane may hold. A read and the marking are of both arrays, an asked and a write of the first, an operation
+-- that alters of the second.
+abbrev pub ofFirst : Whose → Bool
+ofFirst Whose.First = true
+ofFirst Whose.Second = false
+ofFirst Whose.Either = true
+
+abbrev pub ofSecond : Whose → Bool
+ofSecond Whose.First = false
+ofSecond Whose.Second = true
+ofSecond Whose.Either = true
+
+abbrev pub owns : Whose → Op → Bool
+owns w Op.Idle = true
+owns w (Op.Read i c) = true
+owns w (Op.Reading i) = true
+owns w (Op.Asked i c) = ofFirst w
+owns w (Op.Store i v) = ofFirst w
+owns w (Op.Write i c) = ofFirst w
+owns w (Op.Marking i k) = true
+owns w (Op.Alter i c) = ofSecond w
+owns w (Op.Apply i) = ofSecond w
 
 -- The cell of an operation under way.
 abbrev pub cellIn : Op → Cell
@@ -50,6 +77,8 @@ cellIn (Op.Asked i c) = i
 cellIn (Op.Store i v) = i
 cellIn (Op.Write i c) = i
 cellIn (Op.Marking i k) = i
+cellIn (Op.Alter i c) = i
+cellIn (Op.Apply i) = i
 
 -- The place of a marking. The link that it remembers is any 64-bit value.
 abbrev pub placeIn : Marking → Place
@@ -85,19 +114,21 @@ restFits z (Op.Asked i c) = checkFits z c
 restFits z (Op.Store i v) = true
 restFits z (Op.Write i c) = checkFits z c
 restFits z (Op.Marking i k) = placeFits z (placeIn k)
+restFits z (Op.Alter i c) = checkFits z c
+restFits z (Op.Apply i) = true
 
--- Own steps so far: 0 to 10; 0 with no operation under way. The cell of one under way is below m.
-abbrev pub opFits : Terms → ℕ → Op → Bool
-opFits z steps o = pick (idle o) (eqb steps 0) (leb steps mostSteps && (cellFits z (cellIn o) && restFits z o))
+-- Own steps so far: 0 to 10; 0 with no operation under way. One under way is the array's own, and its cell is below m.
+abbrev pub opFits : Whose → Terms → ℕ → Op → Bool
+opFits w z steps o = pick (idle o) (eqb steps 0) (leb steps mostSteps && (owns w o && (cellFits z (cellIn o) && restFits z o)))
 
 -- Marks in force 0 to 2m + 1, segments drawn 0 to 17.
-abbrev pub laneFits : Terms → Lane → Bool
-laneFits z l = leb (l .marks) (mostMarks (z .m)) && (leb (l .drawn) mostSegments && opFits z (l .steps) (l .op))
+abbrev pub laneFits : Whose → Terms → Lane → Bool
+laneFits w z l = leb (l .marks) (mostMarks (z .m)) && (leb (l .drawn) mostSegments && opFits w z (l .steps) (l .op))
 
 -- p, m and the pool's top.
 abbrev pub sizesFit : Terms → ℕ → Bool
 sizesFit z top = processesFit (z .p) && (cellsFit (z .m) && leb top (poolWords (z .p) (z .m)))
 
 -- Lanes at or above p are not looked at.
-abbrev pub stateFits : State → Bool
-stateFits s = sizesFit (s .terms) (s .top) && below (s .terms .p) (λ (q : ℕ). laneFits (s .terms) (laneOf s q))
+abbrev pub stateFits : Whose → State → Bool
+stateFits w s = sizesFit (s .terms) (s .top) && below (s .terms .p) (λ (q : ℕ). laneFits w (s .terms) (laneOf s q))

@@ -1,6 +1,6 @@
 // The state of a grid: its lanes, the operation under way in each, and the range of every number.
 ghost use mathlib.Core.Path.{_≡_};
-ghost use Rattle.lanes.specs.Ranges.{idle, cellIn, placeIn, placeFits, linkFits, checkFits, restFits, laneFits, sizesFit};
+ghost use Rattle.lanes.specs.Ranges.{idle, ofFirst, ofSecond, owns, cellIn, placeIn, placeFits, linkFits, checkFits, restFits, laneFits, sizesFit};
 use numbers::Cell;
 use numbers::LANES;
 use numbers::Place;
@@ -38,7 +38,7 @@ pub enum Marking {
     TakeBack(Place),
 }
 
-// The operation under way, if any, at its stage.
+// The operation under way, if any, at its stage. A read and the marking are of both arrays, an asked and a write of the first.
 pub enum Op {
     Idle,
     // a read: its check, and the reading once that has shown the cell written
@@ -49,6 +49,16 @@ pub enum Op {
     Store(Cell, u32),
     Write(Cell, Check),
     Marking(Cell, Marking),
+    // of the second array, one that alters the reading: its check, and its last step
+    Alter(Cell, Check),
+    Apply(Cell),
+}
+
+// Whose operations a lane may hold: the first array's, the second's, or those of either.
+pub enum Whose {
+    First,
+    Second,
+    Either,
 }
 
 pub struct Lane {
@@ -77,6 +87,45 @@ pub fn idle(o: Op) -> bool
         Op::Store(_, _) => false,
         Op::Write(_, _) => false,
         Op::Marking(_, _) => false,
+        Op::Alter(_, _) => false,
+        Op::Apply(_) => false,
+    }
+}
+
+fn of_first(w: Whose) -> bool
+    ensures { λ r. ⌜ r ≡ ofFirst w ⌝ }
+{
+    match w {
+        Whose::First => true,
+        Whose::Second => false,
+        Whose::Either => true,
+    }
+}
+
+fn of_second(w: Whose) -> bool
+    ensures { λ r. ⌜ r ≡ ofSecond w ⌝ }
+{
+    match w {
+        Whose::First => false,
+        Whose::Second => true,
+        Whose::Either => true,
+    }
+}
+
+// Whether such a lane may hold the operation.
+fn owns(w: Whose, o: Op) -> bool
+    ensures { λ r. ⌜ r ≡ owns w o ⌝ }
+{
+    match o {
+        Op::Idle => true,
+        Op::Read(_, _) => true,
+        Op::Reading(_) => true,
+        Op::Asked(_, _) => of_first(w),
+        Op::Store(_, _) => of_first(w),
+        Op::Write(_, _) => of_first(w),
+        Op::Marking(_, _) => true,
+        Op::Alter(_, _) => of_second(w),
+        Op::Apply(_) => of_second(w),
     }
 }
 
@@ -92,6 +141,8 @@ fn cell_in(o: Op) -> Cell
         Op::Store(i, _) => i,
         Op::Write(i, _) => i,
         Op::Marking(i, _) => i,
+        Op::Alter(i, _) => i,
+        Op::Apply(i) => i,
     }
 }
 
@@ -149,12 +200,14 @@ fn rest_fits(z: Terms, o: Op) -> bool
         Op::Store(_, _) => true,
         Op::Write(_, c) => check_fits(z, c),
         Op::Marking(_, k) => place_fits(z, place_in(k)),
+        Op::Alter(_, c) => check_fits(z, c),
+        Op::Apply(_) => true,
     }
 }
 
-// Whether a lane's numbers are in their ranges. Most lanes are at rest: asked first.
-pub fn lane_fits(z: Terms, l: Lane) -> bool
-    ensures { λ r. ⌜ r ≡ laneFits z l ⌝ }
+// Whether a lane's numbers are in their ranges, and its operation one that it may hold. Most lanes are at rest: asked first.
+pub fn lane_fits(w: Whose, z: Terms, l: Lane) -> bool
+    ensures { λ r. ⌜ r ≡ laneFits w z l ⌝ }
 {
     if numbers::most_marks(z.m) < l.marks as usize {
         return false;
@@ -167,6 +220,9 @@ pub fn lane_fits(z: Terms, l: Lane) -> bool
         return l.steps == 0;
     }
     if STEPS < l.steps {
+        return false;
+    }
+    if !owns(w, o) {
         return false;
     }
     if !numbers::cell_fits(z, cell_in(o)) {

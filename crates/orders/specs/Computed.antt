@@ -51,6 +51,8 @@ answered n (Next.Going o) r e = no cc
 answered n (Next.Read v b) r e = no cc
 answered n Next.Written r e = no cc
 answered n (Next.Asked b) r e = no cc
+answered n (Next.Found v) r e = no cc
+answered n (Next.Altered v b) r e = no cc
 
 -- What a step answers whose verdict is v; the order of a step, whatever its turn. (One outside is refused with the last 9, so that it
 -- matters not what it would come to.)

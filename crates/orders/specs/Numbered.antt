@@ -9,6 +9,7 @@ use Rattle.numbers.specs.declared.Terms.{Terms}
 use Rattle.refusals.specs.declared.Refusal.{Refusal}
 use Rattle.refusals.specs.Numbers.{numberOf}
 use Rattle.refusals.specs.Orders.{Rule, orders}
+use Rattle.lanes.specs.declared.Whose.the-variants as Whose
 use Rattle.lanes.specs.declared.State.{State}
 use Rattle.lanes.specs.Ranges.{laneOf, stateFits}
 use Rattle.steps.specs.declared.Turn.{Turn}
@@ -38,14 +39,14 @@ pub record InOrder {A : Type 0} (refuse : Refusal → A) (outcome : A) (rules : 
   pub numbered : numbersOf rules ≡ numbers
 
 abbrev pub beginRules : State → ℕ → Ask → List Rule
-beginRules s q a = Grid.beginRefusals (stateFits s) (s .terms) q (laneOf s q) (Grid.cellOf a)
+beginRules s q a = Grid.beginRefusals (stateFits Whose.First s) (s .terms) q (laneOf s q) (Grid.cellOf a)
 
 abbrev pub stepTold : State → ℕ → Memory → List Rule
-stepTold s q mem = Grid.stepRefusals (stateFits s) (s .terms) mem q (laneOf s q)
+stepTold s q mem = Grid.stepRefusals (stateFits Whose.First s) (s .terms) mem q (laneOf s q)
 
 -- The last 9 of a step is of the word, the draw or the new number that its turn asks for.
 abbrev pub rulesBy : State → ℕ → Memory → Turn → List Rule
-rulesBy s q mem t = stepTold s q mem ++ Grid.turnRefusals (s .terms) (s .top) (laneOf s q) t
+rulesBy s q mem t = stepTold s q mem ++ Grid.turnRefusals Whose.First (s .terms) (s .top) (laneOf s q) t
 
 abbrev pub stepRules : State → ℕ → Memory → List Rule
 stepRules s q mem = rulesBy s q mem (Grid.turnIn s q mem)

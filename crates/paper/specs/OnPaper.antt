@@ -1,5 +1,5 @@
 -- On a run at rest, the cells listed for the planners are those that the array of demand 2 has a write of, with its values; and when
--- the text is refused, on any run.
+-- the text is refused, on any run. Of either array.
 -- Assumes nothing.
 use Prim.Native.Nat.{ℕ, _<_}
 use mathlib.Core.Path.{_≡_}
@@ -15,8 +15,8 @@ use Rattle.planners_text.specs.declared.Wrote.the-variants as Wrote
 use Rattle.planners_text.specs.PlannersText.{header, lineOf, textOf, Page, page, writeOf}
 use Rattle.planners_text.specs.Sheet.{Row, row, writtenBelow}
 use Rattle.theory.specs.Order.{Entry, valueIn, writtenIn}
-use Rattle.demands.specs.Types.{Refusal, Terms, State}
-use Rattle.demands.specs.Book.{Book, Run}
+use Rattle.demands.specs.Types.{Refusal, Terms, State, Memory}
+use Rattle.demands.specs.Book.{Book}
 use Rattle.demands.specs.Demand2.{OneOrder}
 use Rattle.resting.specs.AtRest.{Resting, restsIn, UnderWay, filled}
 
@@ -35,19 +35,17 @@ abbrev pub writeIn : Terms → Book → List ℕ → List ℕ → Page
 writeIn z b text out = orders (λ r. page (Wrote.Refused r) out) (refusalsIn z b text out) (page (Wrote.Bytes (length text)) (splice out 0 text))
 
 -- One order, as demand 2 has it, of which at rest the text and its rows tell; and what writing comes to, into any buffer.
-pub record OnPaper (z : Terms) (r : Run State) : Type 0 where
-  pub one-order : OneOrder (filled z) (r .book)
-  pub rows : Resting z r → writtenBelow (r .world .state) (r .world .memory) (z .m) ≡ arrayBelow (filled z) (one-order .order) (z .m)
-  pub text : Resting z r → textOf (r .world .state) (r .world .memory) ≡ arrayText (filled z) (one-order .order) (z .m)
-  pub writes : (out : List ℕ) → writeOf (r .world .state) (r .world .memory) out ≡ writeIn z (r .book) (textOf (r .world .state) (r .world .memory)) out
+pub record OnPaper (z : Terms) (s : State) (mem : Memory) (b : Book) : Type 0 where
+  pub one-order : OneOrder (filled z) b
+  pub rows : Resting z b → writtenBelow s mem (z .m) ≡ arrayBelow (filled z) (one-order .order) (z .m)
+  pub text : Resting z b → textOf s mem ≡ arrayText (filled z) (one-order .order) (z .m)
+  pub writes : (out : List ℕ) → writeOf s mem out ≡ writeIn z b (textOf s mem) out
 
 -- At rest the text is refused with 17 alone, and exactly if it is longer than the buffer.
-pub record SeventeenAlone (z : Terms) (r : Run State) (out : List ℕ) : Type 0 where
-  pub alone : (e : Refusal) → writeOf (r .world .state) (r .world .memory) out .answer ≡ Wrote.Refused e
-      → (e ≡ Refusal.NoRoom) × (length out < length (textOf (r .world .state) (r .world .memory)))
-  pub exactly : length out < length (textOf (r .world .state) (r .world .memory))
-      → writeOf (r .world .state) (r .world .memory) out ≡ page (Wrote.Refused Refusal.NoRoom) out
+pub record SeventeenAlone (s : State) (mem : Memory) (out : List ℕ) : Type 0 where
+  pub alone : (e : Refusal) → writeOf s mem out .answer ≡ Wrote.Refused e → (e ≡ Refusal.NoRoom) × (length out < length (textOf s mem))
+  pub exactly : length out < length (textOf s mem) → writeOf s mem out ≡ page (Wrote.Refused Refusal.NoRoom) out
 
 -- With an operation under way it is refused with 10.
-abbrev pub TenUnderWay : Terms → Run State → Type 0
-TenUnderWay z r = (out : List ℕ) → UnderWay z r → writeOf (r .world .state) (r .world .memory) out ≡ page (Wrote.Refused Refusal.AtWork) out
+abbrev pub TenUnderWay : Terms → State → Memory → Book → Type 0
+TenUnderWay z s mem b = (out : List ℕ) → UnderWay z b → writeOf s mem out ≡ page (Wrote.Refused Refusal.AtWork) out

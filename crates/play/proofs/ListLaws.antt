@@ -18,11 +18,10 @@ use Rattle.lanes.specs.declared.State.{State}
 use Rattle.steps.specs.Memory.{Memory}
 use Rattle.acts.specs.declared.Ask.{Ask}
 use Rattle.acts.specs.Worlds.{grid, Call, World, world, answerTo, worldAfter}
-use Rattle.batch.specs.Batch.{Batch, batch, entering, entries, batchOf, Told}
-use Rattle.batch.specs.Batch as Batches
-use Rattle.batch.specs.Fold.{worldOf}
-use Rattle.batch.specs.Fold as Entries
+use Rattle.batch.specs.Batch.{Batch, batch, worldOf, entries, batchOf, Told}
+use Rattle.batch.specs.Batch as Entries
 use Rattle.play.specs.Play.{cellOf, callOf, callAt, after}
+use Rattle.play.specs.Fold.{leaves-alike, answers-alike}
 use Rattle.play.specs.Inner.{listRecords, countOf, kindOf, Listed, Played, Short}
 
 pub kind-low : (d : Record) → d .kind < mostKind → d .kind ≡ kindOf d
@@ -113,39 +112,40 @@ module _ (bytes : List ℕ) (first c : ℕ) (kinds processes cells values : List
 -- the batch's fold over such lists
 module _ (bytes : List ℕ) (w : World State) (first c : ℕ) (kinds processes cells values : List ℕ) (f : Fields bytes first c kinds processes cells values)
     (s : State) (mem : Memory) (words : List ℕ) (start : world s mem ≡ after bytes w first) where
-  abbrev at : ℕ → Batch
-  at i = Batches.after kinds processes cells values (batch s mem words) i
-
   abbrev z : Terms
-  z = w .state .terms
+  z = s .terms
+
+  abbrev at : ℕ → Batch State
+  at i = Entries.after grid (Entries.callAt (s .terms) kinds processes cells values) (batch s mem words) i
 
   abbrev Same : ℕ → Type 0
   Same i = worldOf (at i) ≡ after bytes w (first + i)
 
-  call-is : (i : ℕ) → i < c → Entries.callAt z kinds processes cells values i ≡ callAt bytes w (first + i)
+  -- entry i is record first + i, whatever terms the calls are told
+  call-is : (i : ℕ) → i < c → Entries.callAt z kinds processes cells values i ≡ callOf z (recordAt bytes (first + i))
   call-is i low =
       rw (f .kinds-are i low, f .processes-are i low, f .cells-are i low, f .values-are i low) (entry-call z (recordAt bytes (first + i)))
 
   same-fold : (i : ℕ) → i ≤ c → Same i
-  unfolding after Batches.after
+  unfolding after Entries.after
   same-fold zero low = let e : first + 0 ≡ first = omega arith in rw e start
   same-fold (suc i) low =
       let e : first + suc i ≡ suc (first + i) = omega arith in
       rw e
-      (Entries.entering-leaves z kinds processes cells values (at i) i
-      ∙ ap (λ (a : Call Ask z). worldAfter grid (worldOf (at i)) a) (call-is i (omega arith))
+      (ap (λ (a : Call Ask z). worldAfter grid (worldOf (at i)) a) (call-is i (omega arith))
+      ∙ leaves-alike z (w .state .terms) (worldOf (at i)) (recordAt bytes (first + i))
       ∙ ap (λ (x : World State). worldAfter grid x (callAt bytes w (first + i))) (same-fold i (omega arith)))
 
   answer-is : (i : ℕ) → i < c
-      → entering kinds processes cells values (at i) i .stepped .answer ≡ answerTo grid (after bytes w (first + i)) (callAt bytes w (first + i))
+      → answerTo grid (worldOf (at i)) (Entries.callAt z kinds processes cells values i) ≡ answerTo grid (after bytes w (first + i)) (callAt bytes w (first + i))
   answer-is i low =
-      Entries.entering-answers z kinds processes cells values (at i) i
-      ∙ ap (λ (a : Call Ask z). answerTo grid (worldOf (at i)) a) (call-is i low)
+      ap (λ (a : Call Ask z). answerTo grid (worldOf (at i)) a) (call-is i low)
+      ∙ answers-alike z (w .state .terms) (worldOf (at i)) (recordAt bytes (first + i))
       ∙ ap (λ (x : World State). answerTo grid x (callAt bytes w (first + i))) (same-fold i (omega arith))
 
   listed : (r : State) (mem′ : Memory) (words′ : List ℕ) → c ≡ entries kinds processes cells values words
       → batch r mem′ words′ ≡ batchOf s mem words kinds processes cells values
-      → Told kinds processes cells values (batch s mem words) (entries kinds processes cells values words) words′
+      → Told grid (Entries.callAt (s .terms) kinds processes cells values) (batch s mem words) (entries kinds processes cells values words) words′
       → Listed bytes w first c (world r mem′) words′
   unfolding batchOf
   listed r mem′ words′ n e t = record {
@@ -162,7 +162,7 @@ entries-first c kinds processes cells values words e p q v w = omega arith
 pub played-is : (bytes : List ℕ) (first c i : ℕ) (kinds processes cells values : List ℕ) (s r : State) (mem mem′ : Memory)
     (words words′ : List ℕ) → Short first c words → c ≤ i
     → Filling bytes first c i kinds processes cells values → batch r mem′ words′ ≡ batchOf s mem words (take c kinds) processes cells values
-    → Told (take c kinds) processes cells values (batch s mem words) (entries (take c kinds) processes cells values words) words′
+    → Told grid (Entries.callAt (s .terms) (take c kinds) processes cells values) (batch s mem words) (entries (take c kinds) processes cells values words) words′
     → Played bytes first c (world s mem) (world r mem′) words′
 played-is bytes first c i kinds processes cells values s r mem mem′ words words′ q high f e t w start =
     listed bytes w first c (take c kinds) processes cells values fields s mem words start r mem′ words′

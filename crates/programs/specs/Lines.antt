@@ -40,6 +40,8 @@ says-refused Answer.Going r e = another Answer.Going r (λ k. let y : ⊥ = omeg
 says-refused (Answer.Read v b n) r e = another (Answer.Read v b n) r (λ k. let y : ⊥ = omega arith in y) e
 says-refused (Answer.Written n) r e = another (Answer.Written n) r (λ k. let y : ⊥ = omega arith in y) e
 says-refused (Answer.Asked b n) r e = another (Answer.Asked b n) r (λ k. let y : ⊥ = omega arith in y) e
+says-refused (Answer.Found v n) r e = another (Answer.Found v n) r (λ k. let y : ⊥ = omega arith in y) e
+says-refused (Answer.Altered v b n) r e = another (Answer.Altered v b n) r (λ k. let y : ⊥ = omega arith in y) e
 says-refused (Answer.Refused r′) r e = ap Answer.Refused (same-number r′ r (same-back (word "refused ") (decimal (numberOf r′)) (decimal (numberOf r)) e))
 
 pub line-refused : (k : ℕ) (a : Answer) (r : Refusal) → answerLine k a ≡ answerLine k (Answer.Refused r) → a ≡ Answer.Refused r

@@ -35,6 +35,7 @@ use Rattle.demands.specs.Book.{Book, Run, start}
 use Rattle.demands.specs.Demand1.{Said, refused, begins, steps, said}
 use Rattle.demands.specs.Demanded.{isBusy, expected, Meets}
 use Rattle.bridge.specs.Runs.{run-world}
+use Rattle.bridge.specs.Arrays.{first-array}
 use Rattle.bridge.specs.Proved.{demanded}
 use Rattle.resting.specs.AtRest.{restsIn}
 use Rattle.resting.specs.Hours.{rests-resting}
@@ -131,8 +132,8 @@ module _ (bytes : List ℕ) (h : Header) (n : ℕ) (e : readOf bytes ≡ Reading
   abbrev text : List ℕ
   text = textOf (end .world .state) (end .world .memory)
 
-  paper : OnPaper (termsOf h) end
-  paper = on-paper (termsOf h) (filled h) accepted (calls (termsOf h) bytes n)
+  paper : OnPaper (termsOf h) (end .world .state) (end .world .memory) (end .book)
+  paper = on-paper first-array (termsOf h) (filled h) accepted (calls (termsOf h) bytes n)
 
   abbrev array : List ℕ
   array = arrayText (AtRest.filled (termsOf h)) (paper .one-order .order) (h .m)
@@ -150,7 +151,7 @@ module _ (bytes : List ℕ) (h : Header) (n : ℕ) (e : readOf bytes ≡ Reading
   by-array out = by (restsIn (termsOf h) (end .book)) refl
     where
       by : (b : Bool) → restsIn (termsOf h) (end .book) ≡ b → sheetIn (termsOf h) (end .book) text out ≡ sheetIn (termsOf h) (end .book) array out
-      by true x = ap (λ (l : List ℕ). sheetIn (termsOf h) (end .book) l out) (paper .text (rests-resting (termsOf h) end x))
+      by true x = ap (λ (l : List ℕ). sheetIn (termsOf h) (end .book) l out) (paper .text (rests-resting (termsOf h) (end .book) x))
       by false x = rw x
 
   sheet : Sheet bytes h n

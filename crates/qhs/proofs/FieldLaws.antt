@@ -135,12 +135,12 @@ module _ (l : Layout) (s : List ℕ) (k at : ℕ) (start : at ≡ startIn l (len
 
 -- ---- the mark
 
-module _ (s : List ℕ) where
-  pub no-q : (byteAt s 0 ≡ 81 → ⊥) → false ≡ marked s
+module _ (l : Layout) (s : List ℕ) where
+  pub no-q : (byteAt s 0 ≡ 81 → ⊥) → false ≡ marked l s
   no-q h = simp (ne-eqb _ _ h)
 
-  pub no-h : byteAt s 0 ≡ 81 → (byteAt s 1 ≡ 72 → ⊥) → false ≡ marked s
+  pub no-h : byteAt s 0 ≡ 81 → (byteAt s 1 ≡ 72 → ⊥) → false ≡ marked l s
   no-h e h = simp (eq-eqb _ _ e, ne-eqb _ _ h)
 
-  pub s-decides : byteAt s 0 ≡ 81 → byteAt s 1 ≡ 72 → eqb (byteAt s 2) 83 ≡ marked s
-  s-decides e f = simp (eq-eqb _ _ e, eq-eqb _ _ f)
+  pub letter-decides : byteAt s 0 ≡ 81 → byteAt s 1 ≡ 72 → eqb (byteAt s 2) (l .letter) ≡ marked l s
+  letter-decides e f = simp (eq-eqb _ _ e, eq-eqb _ _ f)

@@ -19,8 +19,8 @@ use Rattle.qhs.specs.declared.Reading.{Reading}
 use Rattle.qhs.specs.declared.Reading.the-variants as Reading
 use Rattle.qhs.specs.declared.Counts.{Counts}
 use Rattle.qhs.specs.declared.Counts.the-variants as Counts
-use Rattle.qhs.specs.Qhs.{version1, mostBytes, mostFileCells, mostKind, marked, versionOf, headerOf, bodyBytes, recordsIn}
-use Rattle.qhs.specs.Qhs.{recordIn, kindFits, countsAs, readIn, readOf}
+use Rattle.qhs.specs.Qhs.{version1, corrections, mostBytes, mostFileCells, marked, versionOf, headerOf, bodyBytes, recordsIn}
+use Rattle.qhs.specs.Qhs.{recordIn, kindFits, countsAs, readIn, readOf, correctionsOf}
 use Rattle.qhs.specs.Inner.{openedAs, recordsAs}
 use Rattle.qhs.specs.Laws.{countedAs, counted}
 
@@ -34,10 +34,10 @@ unfolding below
 known-none l s = refl
 
 module _ (l : Layout) (s : List ℕ) (k kind : ℕ) (is : kind ≡ recordIn l s k .kind) where
-  pub known-next : Known l s k → kind ≤ mostKind → Known l s (k + 1)
+  pub known-next : Known l s k → kind ≤ l .last → Known l s (k + 1)
   known-next h low = below-next k (kindFits l s) h (le-leb _ _ (rw is at low))
 
-  pub unknown : (n : ℕ) → k < n → mostKind < kind → false ≡ below n (kindFits l s)
+  pub unknown : (n : ℕ) → k < n → l .last < kind → false ≡ below n (kindFits l s)
   unknown n h high = sym (below-fails n k (kindFits l s) h (lt-leb _ _ (rw is at high)))
 
 pub known-all : (l : Layout) (s : List ℕ) (k n : ℕ) → Known l s k → k ≤ n → n ≤ k → true ≡ below n (kindFits l s)
@@ -55,13 +55,13 @@ module _ (l : Layout) (s : List ℕ) where
     unfolding readIn
     too-short h = simp (le-ltb _ _ fits, lt-leb _ _ h)
 
-    module _ (long : l .header ≤ length s) (b : Bool) (eb : b ≡ marked s) where
+    module _ (long : l .header ≤ length s) (b : Bool) (eb : b ≡ marked l s) where
       pub unmarked : not b ≡ true → Reading.Refused Refusal.NotASchedule ≡ readIn l s
       unfolding readIn
       unmarked h = simp (le-ltb _ _ fits, le-leb _ _ long, sym eb ∙ not-true b h)
 
       module _ (mark : not b ≡ false) (v : ℕ) (ev : v ≡ versionOf s) where
-        is-marked : marked s ≡ true
+        is-marked : marked l s ≡ true
         is-marked = sym eb ∙ not-false b mark
 
         pub other-version : (v ≡ l .version → ⊥) → Reading.Refused Refusal.Version ≡ readIn l s
@@ -88,6 +88,10 @@ module _ (l : Layout) (s : List ℕ) where
 pub read-is : (s : List ℕ) (r : Reading) → r ≡ readIn version1 s → r ≡ readOf s
 unfolding readOf
 read-is s r e = e
+
+pub corrections-are : (s : List ℕ) (r : Reading) → r ≡ readIn corrections s → r ≡ correctionsOf s
+unfolding correctionsOf
+corrections-are s r e = e
 
 -- ---- the records' refusals
 

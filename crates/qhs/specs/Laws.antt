@@ -23,8 +23,8 @@ use Rattle.qhs.specs.declared.Reading.{Reading}
 use Rattle.qhs.specs.declared.Reading.the-variants as Reading
 use Rattle.qhs.specs.declared.Counts.{Counts}
 use Rattle.qhs.specs.declared.Counts.the-variants as Counts
-use Rattle.qhs.specs.Qhs.{version1, mostBytes, mostRecords, mostFileCells, mostKind, marked, versionOf, headerOf, recordIn}
-use Rattle.qhs.specs.Qhs.{bodyBytes, recordsIn, kindFits, kindsFit, openRefusals, countsAs, fileRefusals, readIn, readOf}
+use Rattle.qhs.specs.Qhs.{version1, corrections, mostBytes, mostRecords, mostFileCells, marked, versionOf, headerOf, recordIn}
+use Rattle.qhs.specs.Qhs.{bodyBytes, recordsIn, kindFits, kindsFit, openRefusals, countsAs, fileRefusals, readIn, readOf, correctionsOf}
 use Rattle.qhs.specs.Inner.{Sound}
 
 -- ---- p and m
@@ -68,12 +68,23 @@ version1-sound = record {
   value-near = omega arith;
 }
 
+pub corrections-sound : Sound corrections
+corrections-sound = record {
+  header-low = omega arith;
+  stride-low = omega arith;
+  cell-high = omega arith;
+  first-near = omega arith;
+  step-near = omega arith;
+  fill-near = omega arith;
+  value-near = omega arith;
+}
+
 refused-not : (r : Refusal) (d : Header) (n : ℕ) → Reading.Refused r ≡ Reading.Schedule d n → ⊥
 refused-not r d n h = let z : _≡_ {A = ℕ} 0 1 = cc in omega arith
 
 -- What a schedule's header and its number of records satisfy.
 pub record Schedule (l : Layout) (s : List ℕ) (d : Header) (n : ℕ) : Type 0 where
-  pub mark : marked s ≡ true
+  pub mark : marked l s ≡ true
   pub version-is : versionOf s ≡ l .version
   pub header : d ≡ headerOf l s
   pub counts : Counted (d .p) (d .m)
@@ -81,7 +92,7 @@ pub record Schedule (l : Layout) (s : List ℕ) (d : Header) (n : ℕ) : Type 0 
   pub bytes : length s ≡ l .header + l .stride * n
   pub bytes-high : length s ≤ mostBytes
   pub n-high : n ≤ mostRecords
-  pub kinds : (k : ℕ) → k < n → recordIn l s k .kind ≤ mostKind
+  pub kinds : (k : ℕ) → k < n → recordIn l s k .kind ≤ l .last
 
 -- whole records, as many as there are
 whole-bytes : (l : Layout) (s : List ℕ) → l .header ≤ length s → bodyBytes l s % l .stride ≡ 0 → length s ≡ l .header + l .stride * recordsIn l s
@@ -106,13 +117,13 @@ schedule-in l s d n sound e =
     let d-is : d ≡ headerOf l s = cc (h .1) in
     let n-is : n ≡ recordsIn l s = cc (h .1) in
     let short = ltb-false mostBytes (length s) fits in
-    let begins = not-false (leb (l .header) (length s) && marked s) (h .0 .1 .0) in
-    let long = leb-true (l .header) (length s) (and-left (leb (l .header) (length s)) (marked s) begins) in
+    let begins = not-false (leb (l .header) (length s) && marked l s) (h .0 .1 .0) in
+    let long = leb-true (l .header) (length s) (and-left (leb (l .header) (length s)) (marked l s) begins) in
     let whole = eqb-true (bodyBytes l s % l .stride) 0 (not-false _ (body .0)) in
     let known = not-false (kindsFit l s) (body .1 .0) in
     let bytes : length s ≡ l .header + l .stride * n = whole-bytes l s long whole ∙ rw n-is in
     record {
-      mark = and-right (leb (l .header) (length s)) (marked s) begins;
+      mark = and-right (leb (l .header) (length s)) (marked l s) begins;
       version-is = eqb-true (versionOf s) (l .version) (not-false _ (after-mark .0));
       header = d-is;
       counts = rw d-is (none-counted (headerOf l s .p) (headerOf l s .m) (body .1 .1));
@@ -126,6 +137,10 @@ schedule-in l s d n sound e =
 pub schedule : (s : List ℕ) (r : Reading) (d : Header) (n : ℕ) → r ≡ readOf s → r ≡ Reading.Schedule d n → Schedule version1 s d n
 unfolding readOf
 schedule s r d n e f = schedule-in version1 s d n version1-sound (sym e ∙ f)
+
+pub corrected : (s : List ℕ) (r : Reading) (d : Header) (n : ℕ) → r ≡ correctionsOf s → r ≡ Reading.Schedule d n → Schedule corrections s d n
+unfolding correctionsOf
+corrected s r d n e f = schedule-in corrections s d n corrections-sound (sym e ∙ f)
 
 -- Its numbers fit their types: first and step 32 bits, the fill 64.
 pub record Words (d : Header) : Type 0 where

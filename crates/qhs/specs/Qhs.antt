@@ -15,6 +15,7 @@ use Rattle.refusals.specs.declared.Refusal.the-variants as Refusal
 use Rattle.qhs.specs.declared.Layout.{Layout}
 use Rattle.qhs.specs.declared.Header.{Header}
 use Rattle.qhs.specs.declared.Record.{Record}
+use Rattle.qhs.specs.declared.Correction.{Correction}
 use Rattle.qhs.specs.declared.Reading.{Reading}
 use Rattle.qhs.specs.declared.Reading.the-variants as Reading
 use Rattle.qhs.specs.declared.Counts.{Counts}
@@ -23,7 +24,24 @@ use Rattle.qhs.specs.declared.Counts.the-variants as Counts
 -- Version 1: a header of 24 bytes with a cell count of 2, first from 8, step from 12 and the fill from 16 on; then records of 8 bytes
 -- with a cell of 2 bytes and the value from 4 on.
 abbrev pub version1 : Layout
-version1 = record { version = 1; header = 24; stride = 8; cell = 2; first = 8; step = 12; fill = 16; value = 4 }
+version1 =
+    record { letter = 83; version = 1; header = 24; stride = 8; cell = 2; first = 8; step = 12; fill = 16; value = 4; last = 3 }
+
+-- Corrections (W6), which a schedule has no records for: the same header; the mark's letter is C, and a record has a second value.
+-- Kinds: 0 step, 1 read, 2 compare-and-swap, 3 fetch-and-add, 4 fetch-and-store.
+abbrev pub corrections : Layout
+corrections = record {
+  letter = 67;
+  version = version1 .version;
+  header = version1 .header;
+  stride = version1 .stride + 4;
+  cell = version1 .cell;
+  first = version1 .first;
+  step = version1 .step;
+  fill = version1 .fill;
+  value = version1 .value;
+  last = 4;
+}
 
 -- A file's length: 65,536 bytes at the most; and its records, 8,189.
 abbrev pub mostBytes : ℕ
@@ -38,11 +56,11 @@ mostFileCells = 2040
 
 -- Kinds: 0 step, 1 read, 2 write, 3 asked.
 abbrev pub mostKind : ℕ
-mostKind = 3
+mostKind = version1 .last
 
--- Bytes 0 to 2 "QHS".
-abbrev pub marked : List ℕ → Bool
-marked bytes = eqb (byteAt bytes 0) 81 && (eqb (byteAt bytes 1) 72 && eqb (byteAt bytes 2) 83)
+-- Bytes 0 to 2 "QHS", or the letter that the layout has.
+abbrev pub marked : Layout → List ℕ → Bool
+marked l bytes = eqb (byteAt bytes 0) 81 && (eqb (byteAt bytes 1) 72 && eqb (byteAt bytes 2) (l .letter))
 
 -- 3, 4 version.
 abbrev pub versionOf : List ℕ → ℕ
@@ -81,6 +99,14 @@ recordIn l bytes k = fieldsAt l bytes (recordStart l k)
 abbrev pub recordAt : List ℕ → ℕ → Record
 recordAt bytes k = recordIn version1 bytes k
 
+-- Of a correction a second value follows the first.
+abbrev pub correctionFrom : Record → ℕ → Correction
+correctionFrom r new = record { kind = r .kind; process = r .process; cell = r .cell; value = r .value; new = new }
+
+abbrev pub correctionAt : List ℕ → ℕ → Correction
+correctionAt bytes k =
+    correctionFrom (recordIn corrections bytes k) (numberAt bytes (recordStart corrections k + corrections .value + 4) 4)
+
 -- The bytes after the header; as many records as they hold.
 abbrev pub bodyBytes : Layout → List ℕ → ℕ
 bodyBytes l bytes = length bytes - l .header
@@ -88,9 +114,9 @@ bodyBytes l bytes = length bytes - l .header
 abbrev pub recordsIn : Layout → List ℕ → ℕ
 recordsIn l bytes = bodyBytes l bytes / l .stride
 
--- No record's kind is over 3.
+-- No record's kind is over the last.
 abbrev pub kindFits : Layout → List ℕ → ℕ → Bool
-kindFits l bytes k = leb (recordIn l bytes k .kind) mostKind
+kindFits l bytes k = leb (recordIn l bytes k .kind) (l .last)
 
 abbrev pub kindsFit : Layout → List ℕ → Bool
 kindsFit l bytes = below (recordsIn l bytes) (kindFits l bytes)
@@ -109,16 +135,19 @@ countsAs p m = orders Counts.Refused (openRefusals p m) Counts.Fit
 abbrev pub fileRefusals : Layout → List ℕ → List Rule
 fileRefusals l bytes =
     ltb mostBytes (length bytes) gives Refusal.FileTooLong
-    ∷ not (leb (l .header) (length bytes) && marked bytes) gives Refusal.NotASchedule
+    ∷ not (leb (l .header) (length bytes) && marked l bytes) gives Refusal.NotASchedule
     ∷ not (eqb (versionOf bytes) (l .version)) gives Refusal.Version
     ∷ ltb mostFileCells (headerOf l bytes .m) gives Refusal.TooManyCells
     ∷ not (eqb (bodyBytes l bytes % l .stride) 0) gives Refusal.RaggedRecords
     ∷ not (kindsFit l bytes) gives Refusal.RecordKind
     ∷ openRefusals (headerOf l bytes .p) (headerOf l bytes .m)
 
--- What a file of a layout comes to; a file of any bytes is held to version 1.
+-- What a file of a layout comes to; a file of any bytes is held to version 1, or to what corrections are.
 unfoldable pub readIn : Layout → List ℕ → Reading
 readIn l bytes = orders Reading.Refused (fileRefusals l bytes) (Reading.Schedule (headerOf l bytes) (recordsIn l bytes))
 
 unfoldable pub readOf : List ℕ → Reading
 readOf bytes = readIn version1 bytes
+
+unfoldable pub correctionsOf : List ℕ → Reading
+correctionsOf bytes = readIn corrections bytes

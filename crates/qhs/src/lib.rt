@@ -1,9 +1,9 @@
-// The schedule file: its header and its records, or the refusal.
+// The schedule file and the corrections file: header and records, or the refusal.
 ghost use mathlib.Core.Path.{_≡_};
 ghost use Prim.Native.Nat.{_≤_};
 ghost use lib.ListN.{length};
 ghost use Rattle.logic.specs.Below.{below};
-ghost use Rattle.qhs.specs.Qhs.{marked, headerOf, termsOf, recordAt, kindFits, countsAs, readIn, readOf};
+ghost use Rattle.qhs.specs.Qhs.{marked, headerOf, termsOf, recordIn, recordAt, correctionAt, kindFits, countsAs, readIn, readOf, correctionsOf};
 ghost use Rattle.qhs.specs.Inner.{Sound, openedAs, recordsAs};
 
 mod fields;
@@ -11,8 +11,10 @@ mod fields;
 use numbers::Terms;
 use refusals::Refusal;
 
-// Where the files of a version have their parts: lengths, places and widths in bytes.
+// Where the files of a kind and version have their parts: lengths, places and widths in bytes.
 pub struct Layout {
+    // The third letter of the mark.
+    pub letter: u8,
     pub version: u64,
     // The header's length, and how far a record starts after the one before.
     pub header: usize,
@@ -23,11 +25,14 @@ pub struct Layout {
     pub first: usize,
     pub step: usize,
     pub fill: usize,
-    // Where a record has its value.
+    // Where a record has its value, and the last of the kinds.
     pub value: usize,
+    pub last: u8,
 }
 
+// A schedule. Its kinds: 0 step, 1 read, 2 write, 3 asked.
 pub const VERSION_1: Layout = Layout {
+    letter: b'S',
     version: 1,
     header: 24,
     stride: 8,
@@ -36,6 +41,22 @@ pub const VERSION_1: Layout = Layout {
     step: 12,
     fill: 16,
     value: 4,
+    last: 3,
+};
+
+// Corrections: the same header, and a second value in a record. Their kinds: 0 step, 1 read, 2 compare and swap, 3 fetch and add,
+// 4 fetch and store.
+pub const CORRECTIONS: Layout = Layout {
+    letter: b'C',
+    version: VERSION_1.version,
+    header: VERSION_1.header,
+    stride: VERSION_1.stride + 4,
+    cell: VERSION_1.cell,
+    first: VERSION_1.first,
+    step: VERSION_1.step,
+    fill: VERSION_1.fill,
+    value: VERSION_1.value,
+    last: 4,
 };
 
 // What the header says.
@@ -53,6 +74,15 @@ pub struct Record {
     pub process: u8,
     pub cell: u32,
     pub value: u32,
+}
+
+// A correction's fields: those of a record, and a second value.
+pub struct Correction {
+    pub kind: u8,
+    pub process: u8,
+    pub cell: u32,
+    pub value: u32,
+    pub new: u32,
 }
 
 // What a file is: refused, or a schedule of so many records.
@@ -78,13 +108,13 @@ pub const FILE_RECORDS: usize = (FILE_BYTES - VERSION_1.header) / VERSION_1.stri
 // A file's cells at the most.
 pub const FILE_CELLS: u32 = 2040;
 
-// The last of the kinds: 0 step, 1 read, 2 write, 3 asked.
-pub const LAST_KIND: u8 = 3;
+// The last of a schedule's kinds.
+pub const LAST_KIND: u8 = VERSION_1.last;
 
-// Whether the file starts with "QHS".
-fn marked(bytes: &[u8]) -> bool
+// Whether the file starts with "QH" and the letter.
+fn marked(l: Layout, bytes: &[u8]) -> bool
     requires { ⌜ 3 ≤ length (now bytes) ⌝ }
-    ensures { λ r. ⌜ r ≡ marked (now (bytes .entry)) ⌝ }
+    ensures { λ r. ⌜ r ≡ marked l (now (bytes .entry)) ⌝ }
 {
     if bytes[0] != b'Q' {
         return false;
@@ -92,7 +122,7 @@ fn marked(bytes: &[u8]) -> bool
     if bytes[1] != b'H' {
         return false;
     }
-    bytes[2] == b'S'
+    bytes[2] == l.letter
 }
 
 fn header_of(l: Layout, bytes: &[u8]) -> Header
@@ -120,17 +150,39 @@ pub fn terms_of(h: Header) -> Terms
     }
 }
 
-// Record k, numbered from 0. A byte past the end counts as 0.
-pub fn record_at(bytes: &[u8], k: usize) -> Record
-    ensures { λ r. ⌜ r ≡ recordAt (now (bytes .entry)) k ⌝ }
+// Record k of a file laid out so, numbered from 0. A byte past the end counts as 0.
+fn record_in(l: Layout, bytes: &[u8], k: usize) -> Record
+    requires { ⌜ Sound l ⌝ }
+    ensures { λ r. ⌜ r ≡ recordIn l (now (bytes .entry)) k ⌝ }
 {
-    let l = VERSION_1;
     let at = fields::start_of(l, bytes.len(), k);
     Record {
         kind: fields::byte_at(bytes, at),
         process: fields::byte_at(bytes, at + 1),
         cell: fields::word_at(bytes, at + 2, l.cell),
         value: fields::word_at(bytes, at + l.value, 4),
+    }
+}
+
+pub fn record_at(bytes: &[u8], k: usize) -> Record
+    ensures { λ r. ⌜ r ≡ recordAt (now (bytes .entry)) k ⌝ }
+{
+    record_in(VERSION_1, bytes, k)
+}
+
+// Correction k, likewise: its second value follows the first.
+pub fn correction_at(bytes: &[u8], k: usize) -> Correction
+    ensures { λ r. ⌜ r ≡ correctionAt (now (bytes .entry)) k ⌝ }
+{
+    let l = CORRECTIONS;
+    let d = record_in(l, bytes, k);
+    let start = fields::start_of(l, bytes.len(), k);
+    Correction {
+        kind: d.kind,
+        process: d.process,
+        cell: d.cell,
+        value: d.value,
+        new: fields::word_at(bytes, start + l.value + 4, 4),
     }
 }
 
@@ -142,7 +194,7 @@ fn kinds_fit(l: Layout, bytes: &[u8], n: usize) -> bool
     let mut k: usize = 0;
     while k < n {
         let at = fields::start_of(l, bytes.len(), k);
-        if LAST_KIND < fields::byte_at(bytes, at) {
+        if l.last < fields::byte_at(bytes, at) {
             return false;
         }
         k = k + 1;
@@ -200,7 +252,7 @@ fn read_in(l: Layout, bytes: &[u8]) -> Reading
     if bytes.len() < l.header {
         return Reading::Refused(Refusal::NotASchedule);
     }
-    if !marked(bytes) {
+    if !marked(l, bytes) {
         return Reading::Refused(Refusal::NotASchedule);
     }
     if fields::number_at(bytes, 3, 2) != l.version {
@@ -213,7 +265,13 @@ fn read_in(l: Layout, bytes: &[u8]) -> Reading
     records_of(l, bytes, h)
 }
 
-// Reads a file of any bytes: the first refusal that holds is given.
+// Reads a file of any bytes, as a schedule or as corrections: the first refusal that holds is given.
+pub fn read_corrections(bytes: &[u8]) -> Reading
+    ensures { λ r. ⌜ r ≡ correctionsOf (now (bytes .entry)) ⌝ }
+{
+    read_in(CORRECTIONS, bytes)
+}
+
 pub fn read(bytes: &[u8]) -> Reading
     ensures { λ r. ⌜ r ≡ readOf (now (bytes .entry)) ⌝ }
 {

@@ -50,7 +50,7 @@ append e f = cc
 
 -- ---- the header
 
-module _ (s : List ℕ) (b : Bytes s) (m : marked s ≡ true) (v : versionOf s ≡ version) where
+module _ (s : List ℕ) (b : Bytes s) (m : marked version1 s ≡ true) (v : versionOf s ≡ version) where
   mark-is : mark ≡ byteAt s 0 ∷ byteAt s 1 ∷ byteAt s 2 ∷ []
   mark-is =
       let rest = and-right (eqb (byteAt s 0) 81) (eqb (byteAt s 1) 72 && eqb (byteAt s 2) 83) m in

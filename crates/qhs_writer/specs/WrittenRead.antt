@@ -96,7 +96,7 @@ module _ (h : Header) (w : Words h) (p-high : h .p ≤ mostProcesses) (m-high : 
       let fill-is : numberAt (headBytes h ++ t) 16 8 ≡ h .fill = number-of 8 (h .fill) t (w .fill-fits) in
       rw (p-is, m-is, first-is, step-is, fill-is)
 
-head-marked : (h : Header) (t : List ℕ) → marked (headBytes h ++ t) ≡ true
+head-marked : (h : Header) (t : List ℕ) → marked version1 (headBytes h ++ t) ≡ true
 unfolding bytesOf headBytes frontBytes backBytes
 head-marked h t = refl
 

@@ -15,6 +15,7 @@ use Rattle.logic.specs.BelowLaws.{below-more}
 use Rattle.logic.specs.Pick.{pick}
 use Rattle.lanes.specs.declared.Check.{Check}
 use Rattle.lanes.specs.declared.Check.the-variants as Check
+use Rattle.lanes.specs.declared.Whose.the-variants as Whose
 use Rattle.lanes.specs.declared.State.{State}
 use Rattle.lanes.specs.Ranges.{laneOf, marksOf, idle, laneFits, sizesFit, stateFits}
 use Rattle.lanes.specs.Scan.{Passed, passed-all}
@@ -90,22 +91,22 @@ calm-more s i calm b c h e f = f ∙ rw (h, e) (below-more i (λ (q : ℕ). idle
 
 -- past the last lane in use
 module _ (s : State) (b : Bool) (end i : ℕ) (fits calm : Bool) (e : b ≡ sizesFit (s .terms) (s .top)) (f : end ≡ pick b (s .terms .p) 0)
-    (low : i ≤ end) (high : end ≤ i) (h : Passed s i fits) (g : Calm s i calm) where
+    (low : i ≤ end) (high : end ≤ i) (h : Passed Whose.Either s i fits) (g : Calm s i calm) where
   is-p : b ≡ true → i ≡ s .terms .p
   is-p x = let k : end ≡ s .terms .p = f ∙ rw x refl in omega arith
 
-  fits-is : fits ≡ stateFits s
-  fits-is = passed-all s b i fits e is-p h
+  fits-is : fits ≡ stateFits Whose.Either s
+  fits-is = passed-all Whose.Either s b i fits e is-p h
 
   pub is-unfit : not fits ≡ true → Scan.Unfit ≡ scanOf s
-  is-unfit x = let y : not (stateFits s) ≡ true = rw (← fits-is) x in by (stateFits s) y
+  is-unfit x = let y : not (stateFits Whose.Either s) ≡ true = rw (← fits-is) x in by (stateFits Whose.Either s) y
     where
       by : (z : Bool) → not z ≡ true → Scan.Unfit ≡ pick z (pick (atRest s) Scan.AtRest Scan.AtWork) Scan.Unfit
       by true y = let u : false ≡ true = y in cc
       by false y = refl
 
   module _ (x : not fits ≡ false) where
-    state-fits : stateFits s ≡ true
+    state-fits : stateFits Whose.Either s ≡ true
     state-fits = sym fits-is ∙ by fits x
       where
         by : (z : Bool) → not z ≡ false → z ≡ true
@@ -113,7 +114,7 @@ module _ (s : State) (b : Bool) (end i : ℕ) (fits calm : Bool) (e : b ≡ size
         by false y = let u : true ≡ false = y in cc
 
     sizes-fit : b ≡ true
-    sizes-fit = e ∙ and-left (sizesFit (s .terms) (s .top)) (below (s .terms .p) (λ (q : ℕ). laneFits (s .terms) (laneOf s q))) state-fits
+    sizes-fit = e ∙ and-left (sizesFit (s .terms) (s .top)) (below (s .terms .p) (λ (q : ℕ). laneFits Whose.Either (s .terms) (laneOf s q))) state-fits
 
     rest-is : calm ≡ atRest s
     rest-is = g ∙ ap (λ (n : ℕ). below n (λ (q : ℕ). idle (laneOf s q .op))) (is-p sizes-fit)

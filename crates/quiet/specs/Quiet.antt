@@ -9,6 +9,7 @@ use Rattle.numbers.specs.declared.Cell.{Cell}
 use Rattle.logic.specs.Below.{below}
 use Rattle.logic.specs.Pick.{pick}
 use Rattle.lanes.specs.declared.Check.the-variants as Check
+use Rattle.lanes.specs.declared.Whose.the-variants as Whose
 use Rattle.lanes.specs.declared.State.{State}
 use Rattle.lanes.specs.Ranges.{laneOf, marksOf, idle, stateFits}
 use Rattle.steps.specs.declared.Found.{Found}
@@ -26,9 +27,9 @@ use Rattle.quiet.specs.declared.Scan.the-variants as Scan
 abbrev pub atRest : State → Bool
 atRest s = below (s .terms .p) (λ (q : ℕ). idle (laneOf s q .op))
 
--- 9 (state) comes before 10.
+-- 9 (state) comes before 10. The state is a grid's of either array.
 abbrev pub scanOf : State → Scan
-scanOf s = pick (stateFits s) (pick (atRest s) Scan.AtRest Scan.AtWork) Scan.Unfit
+scanOf s = pick (stateFits Whose.Either s) (pick (atRest s) Scan.AtRest Scan.AtWork) Scan.Unfit
 
 -- The two tests of an order of refusals, which may have others between them.
 abbrev pub unfit : Scan → Bool
@@ -64,6 +65,8 @@ quarterOf (Next.Going o) = Quarter.Outside
 quarterOf (Next.Read v b) = Quarter.Read v b
 quarterOf Next.Written = Quarter.Outside
 quarterOf (Next.Asked b) = Quarter.Outside
+quarterOf (Next.Found v) = Quarter.Outside
+quarterOf (Next.Altered v b) = Quarter.Outside
 
 -- The read of cell i, run to its end: the answers are the read's own. No check is still on after four steps.
 abbrev pub readingAs : State → Cell → List ℕ → Found → Quarter

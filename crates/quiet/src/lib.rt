@@ -6,6 +6,7 @@ ghost use Rattle.quiet.specs.Quiet.{marksAt, onward, lookedAt, quarterOf
 use acts::begins;
 use lanes::Check;
 use lanes::State;
+use lanes::Whose;
 use numbers::Cell;
 use numbers::Mark;
 use numbers::PROCESSES;
@@ -40,7 +41,7 @@ pub fn scan_of(s: State) -> Scan
     while i < end {
         let l = s.lanes[i];
         let o = l.op;
-        fits = logic::both(fits, lanes::lane_fits(z, l));
+        fits = logic::both(fits, lanes::lane_fits(Whose::Either, z, l));
         calm = logic::both(calm, lanes::idle(o));
         i = i + 1;
     }
@@ -125,6 +126,8 @@ fn quarter_of(n: Next) -> Quarter
         Next::Read(v, b) => Quarter::Read(v, b),
         Next::Written => Quarter::Outside,
         Next::Asked(_) => Quarter::Outside,
+        Next::Found(_) => Quarter::Outside,
+        Next::Altered(_, _) => Quarter::Outside,
     }
 }
 

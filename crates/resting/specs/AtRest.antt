@@ -1,5 +1,6 @@
 -- After any calls, with no operation under way: what is found of each cell is what the array of demand 2 holds in the end, and
 -- the hour summary is over exactly the cells that the array has a write of. With one under way the summary is refused with 10.
+-- Of either array; an operation that alters counts as a write.
 -- Assumes nothing.
 use Prim.Native.Nat.{ℕ, _*_, _/_, _≤_, _<_}
 use mathlib.Core.Path.{_≡_}
@@ -19,21 +20,21 @@ use Rattle.summary.specs.declared.Summary.{Summary}
 use Rattle.summary.specs.declared.Summary.the-variants as Summary
 use Rattle.summary.specs.Summary.{hourOf, fourFrom, summaryOf}
 use Rattle.theory.specs.Order.{Done, Entry, Is, valueIn, writtenIn}
-use Rattle.demands.specs.Types.{Refusal, Cell, Terms, State, Found}
-use Rattle.demands.specs.Book.{nothing, Book, Run}
+use Rattle.demands.specs.Types.{Refusal, Cell, Terms, State, Memory, Found}
+use Rattle.demands.specs.Book.{nothing, Book}
 use Rattle.demands.specs.Demand2.{OneOrder}
 use Rattle.demands.specs.Demanded.{isBusy}
 
 -- The book shows no process below p at work.
-abbrev pub Resting : Terms → Run State → Type 0
-Resting z r = (q : ℕ) → q < z .p → r .book .doing q ≡ nothing
+abbrev pub Resting : Terms → Book → Type 0
+Resting z b = (q : ℕ) → q < z .p → b .doing q ≡ nothing
 
 -- The same as a test; and that some process below p is at work.
 abbrev pub restsIn : Terms → Book → Bool
 restsIn z b = below (z .p) (λ (q : ℕ). not (isBusy (b .doing q)))
 
-abbrev pub UnderWay : Terms → Run State → Type 0
-UnderWay z r = (q : ℕ) × (q < z .p) × (isBusy (r .book .doing q) ≡ true)
+abbrev pub UnderWay : Terms → Book → Type 0
+UnderWay z b = (q : ℕ) × (q < z .p) × (isBusy (b .doing q) ≡ true)
 
 -- A check that has ended tells whether the cell is written.
 abbrev pub Tells : Found → Bool → Type 0
@@ -42,9 +43,9 @@ Tells (Found.On c) t = ⊥
 Tells (Found.NotWritten link) t = t ≡ false
 Tells Found.Written t = t ≡ true
 
--- Cell i, looked at after the run.
-abbrev pub looked : Run State → Cell → Found
-looked r i = lookedAt (r .world .state) i (r .world .memory .links) (r .world .memory .directory) (r .world .memory .pool)
+-- Cell i, looked at.
+abbrev pub looked : State → Memory → Cell → Found
+looked s mem i = lookedAt s i (mem .links) (mem .directory) (mem .pool)
 
 -- What the array holds at first.
 abbrev pub filled : Terms → ℕ → ℕ
@@ -72,18 +73,17 @@ FiveOrEighteen z h values r = ((z .m / 4 ≤ h) × (r ≡ Refusal.NoSuchCell)) �
 
 -- What a run at rest shows of a grid opened with terms z, against an order of demand 2. All in it have finished. Each cell is
 -- found written exactly if the array has a write of it in that order, and its reading is the array's value.
-pub record AtRest (z : Terms) (r : Run State) (order : List Entry) : Type 0 where
-  pub finished : (e : Entry) → List·Memᴰ e order → (d : Done) × List·Memᴰ d (r .book .ended) × Is e d
-  pub written : (i : ℕ) → i < z .m → Tells (looked r (cellAt z i)) (writtenIn order i)
-  pub reading : (i : ℕ) → i < z .m
-      → readingAt (r .world .state) (cellAt z i) (r .world .memory) ≡ Quarter.Read (valueIn (filled z) order i) (writtenIn order i)
+pub record AtRest (z : Terms) (s : State) (mem : Memory) (b : Book) (order : List Entry) : Type 0 where
+  pub finished : (e : Entry) → List·Memᴰ e order → (d : Done) × List·Memᴰ d (b .ended) × Is e d
+  pub written : (i : ℕ) → i < z .m → Tells (looked s mem (cellAt z i)) (writtenIn order i)
+  pub reading : (i : ℕ) → i < z .m → readingAt s (cellAt z i) mem ≡ Quarter.Read (valueIn (filled z) order i) (writtenIn order i)
 
 -- What any run shows. There is one order, as demand 2 has it; the summary answers by the book and by the array that it gives.
-pub record Shown (z : Terms) (r : Run State) : Type 0 where
-  pub one-order : OneOrder (filled z) (r .book)
-  pub at-rest : Resting z r → AtRest z r (one-order .order)
-  pub summary : (h : ℕ) → summaryOf (r .world .state) h (r .world .memory) ≡ summaryIn z (r .book) h (hourIn (filled z) (one-order .order) h)
+pub record Shown (z : Terms) (s : State) (mem : Memory) (b : Book) : Type 0 where
+  pub one-order : OneOrder (filled z) b
+  pub at-rest : Resting z b → AtRest z s mem b (one-order .order)
+  pub summary : (h : ℕ) → summaryOf s h mem ≡ summaryIn z b h (hourIn (filled z) (one-order .order) h)
 
 -- With an operation under way the summary of every hour is refused with 10.
-abbrev pub TenUnderWay : Terms → Run State → Type 0
-TenUnderWay z r = (h : ℕ) → UnderWay z r → summaryOf (r .world .state) h (r .world .memory) ≡ Summary.Refused Refusal.AtWork
+abbrev pub TenUnderWay : Terms → State → Memory → Book → Type 0
+TenUnderWay z s mem b = (h : ℕ) → UnderWay z b → summaryOf s h mem ≡ Summary.Refused Refusal.AtWork

@@ -3,6 +3,7 @@
 use Prim.Native.Nat.{ℕ, _+_, _<_}
 use mathlib.Core.Path.{_≡_, refl, sym, ap, _∙_, subst}
 use mathlib.Core.Logic.{inl, _≢_}
+use mathlib.Core.Bool.{Bool}
 use mathlib.Core.List.{List, List·Memᴰ}
 use native.Mathlib.Decide.{decLt}
 use native.Mathlib.Omega.{arith}
@@ -18,15 +19,15 @@ use Rattle.quiet.specs.declared.Quarter.the-variants as Quarter
 use Rattle.quiet.specs.Quiet.{lookedAt, readingAs, readingAt}
 use Rattle.quiet.specs.Looked.{no-process, not-in-force, by-mark}
 use Rattle.theory.specs.Interface as Theory
-use Rattle.demands.specs.Types.{Cell, State, Memory, Found}
+use Rattle.demands.specs.Types.{Cell, Hand, State, Memory, Found}
 use Rattle.demands.specs.Book.{Doing, nothing, busy, Book}
 use Rattle.demands.specs.Demand2.{OneOrder}
 use Rattle.bridge.specs.Shadow.{gridOf, laneFor, startsIn}
 use Rattle.bridge.specs.ShadowLaws.{pick-yes}
 use Rattle.bridge.specs.Good.{Good, law, behind, at-work}
-use Rattle.resting.specs.AtRest.{Tells, filled}
+use Rattle.resting.specs.AtRest.{Resting, Tells, filled}
 
-module _ {s : State} {mem : Memory} {b : Book} (H : Good s mem b) (rest : (q : ℕ) → q < s .terms .p → b .doing q ≡ nothing) where
+module _ {pair : Bool} {s : State} {hand : ℕ → Hand} {mem : Memory} {b : Book} (H : Good pair s hand mem b) (rest : Resting (s .terms) b) where
   -- a process beyond p has nothing to do either
   pub nobody : (q : ℕ) → b .doing q ≡ nothing
   nobody q = by (b .doing q) refl
@@ -36,7 +37,7 @@ module _ {s : State} {mem : Memory} {b : Book} (H : Good s mem b) (rest : (q : �
       by (busy began o i taken) e = rest q (Theory.process-fits (law H) (H .whole) q (at-work H q e))
 
   still : (q : ℕ) → behind H .watch .lane q ≡ Theory.idle
-  still q = ap (λ (d : Doing). laneFor d (laneOf s q .op)) (nobody q)
+  still q = ap (λ (d : Doing). laneFor (H .was q) (hand q) d (laneOf s q .op)) (nobody q)
 
   -- ---- the order
 
@@ -83,7 +84,7 @@ module _ {s : State} {mem : Memory} {b : Book} (H : Good s mem b) (rest : (q : �
         (omega (arith, H .lengths .pool, start, T .1 .0))
         (ap (λ (x : ℕ). getD (mem .pool) (x + offsetOf n) 0) start ∙ T .2)
       where
-        T : (segmentOf n < mostSegments) × Theory.Inside (gridOf (s .terms)) at n × (getD (mem .pool) (at + offsetOf n) 0 ≡ H .marks r n)
+        T : (segmentOf n < mostSegments) × Theory.Inside (gridOf pair (s .terms)) at n × (getD (mem .pool) (at + offsetOf n) 0 ≡ H .marks r n)
         T = Theory.place-read (law H) (H .whole) r n hr hn
 
         start : startOf (mem .directory) r n ≡ at

@@ -11,37 +11,38 @@ use Rattle.logic.specs.Truth.{both-ways}
 use Rattle.logic.specs.BelowLaws.{below-at, below-all}
 use Rattle.logic.specs.Pick.{pick}
 use Rattle.lanes.specs.Ranges.{laneOf, idle}
+use Rattle.lanes.specs.Laws.{either-fits}
 use Rattle.acts.specs.Lent.{lengths-fit}
 use Rattle.quiet.specs.declared.Scan.the-variants as Scan
 use Rattle.quiet.specs.Quiet.{atRest, scanOf}
 use Rattle.summary.specs.declared.Summary.the-variants as Summary
 use Rattle.summary.specs.Summary.{summaryOf}
-use Rattle.demands.specs.Types.{Refusal, Terms, State, Memory}
-use Rattle.demands.specs.Book.{Doing, nothing, busy, Book, Run}
+use Rattle.demands.specs.Types.{Refusal, Terms, Hand, State, Memory}
+use Rattle.demands.specs.Book.{Doing, nothing, busy, Book}
 use Rattle.demands.specs.Demanded.{isBusy}
-use Rattle.bridge.specs.Good.{Good, does, state-fits}
-use Rattle.bridge.specs.Views.{works, rests}
+use Rattle.bridge.specs.Good.{whoseOf, Good, works, does, state-fits}
+use Rattle.bridge.specs.Views.{rests}
 use Rattle.resting.specs.AtRest.{Resting, restsIn, filled, hourIn, summaryIn}
 use Rattle.resting.specs.Cells.{order, reading-shown}
 
 -- The test and the book.
-pub resting-rests : (z : Terms) (r : Run State) → Resting z r → restsIn z (r .book) ≡ true
-resting-rests z r rest = below-all (z .p) (λ (q : ℕ). not (isBusy (r .book .doing q))) (λ q h. ap (λ (d : Doing). not (isBusy d)) (rest q h))
+pub resting-rests : (z : Terms) (b : Book) → Resting z b → restsIn z b ≡ true
+resting-rests z b rest = below-all (z .p) (λ (q : ℕ). not (isBusy (b .doing q))) (λ q h. ap (λ (d : Doing). not (isBusy d)) (rest q h))
 
-pub rests-resting : (z : Terms) (r : Run State) → restsIn z (r .book) ≡ true → Resting z r
-rests-resting z r h q hq = by (r .book .doing q) (below-at (z .p) q (λ (q : ℕ). not (isBusy (r .book .doing q))) hq h)
+pub rests-resting : (z : Terms) (b : Book) → restsIn z b ≡ true → Resting z b
+rests-resting z b h q hq = by (b .doing q) (below-at (z .p) q (λ (q : ℕ). not (isBusy (b .doing q))) hq h)
   where
     by : (d : Doing) → not (isBusy d) ≡ true → d ≡ nothing
     by nothing e = refl
     by (busy began o i taken) e = absurd (let y : _≡_ {A = ℕ} 0 1 = cc in omega arith)
 
-module _ {s : State} {mem : Memory} {b : Book} (H : Good s mem b) where
+module _ {pair : Bool} {s : State} {hand : ℕ → Hand} {mem : Memory} {b : Book} (H : Good pair s hand mem b) where
   idle-told : (q : ℕ) → idle (laneOf s q .op) ≡ not (isBusy (b .doing q))
   idle-told q = by (b .doing q) refl
     where
       by : (d : Doing) → b .doing q ≡ d → idle (laneOf s q .op) ≡ not (isBusy d)
-      by nothing e = rests H q e
-      by (busy began o i taken) e = works (s .terms) o i (laneOf s q .op) (does H q e .0)
+      by nothing e = ap idle (rests H q e)
+      by (busy began o i taken) e = works (does H q e .0)
 
   rest-told : atRest s ≡ restsIn (s .terms) b
   rest-told =
@@ -53,7 +54,7 @@ module _ {s : State} {mem : Memory} {b : Book} (H : Good s mem b) where
       (λ x. below-all p f (λ q h. idle-told q ∙ below-at p q g h x))
 
   pub scan-told : scanOf s ≡ pick (restsIn (s .terms) b) Scan.AtRest Scan.AtWork
-  scan-told = rw (state-fits H, rest-told)
+  scan-told = rw (either-fits (whoseOf pair) s (state-fits H), rest-told)
 
   -- ---- with an operation under way
 
@@ -63,7 +64,7 @@ module _ {s : State} {mem : Memory} {b : Book} (H : Good s mem b) where
 
   -- ---- at rest
 
-  module _ (rest : (q : ℕ) → q < s .terms .p → b .doing q ≡ nothing) (e : restsIn (s .terms) b ≡ true) where
+  module _ (rest : Resting (s .terms) b) (e : restsIn (s .terms) b ≡ true) where
     abbrev values : ℕ → List ℕ
     values h = hourIn (filled (s .terms)) (order H rest) h
 

@@ -5,3 +5,5 @@ pub mod Cells
 pub mod Hours
 -- the theorems
 pub mod Theorems
+-- an hour of the second array
+pub mod SecondHour

@@ -1,4 +1,4 @@
--- The theorems, for all terms, every memory that open accepts, and all calls.
+-- The theorems, for all terms, every memory that open accepts, and all calls. Each takes the array as its first argument.
 -- Assumes nothing.
 use Prim.Native.Nat.{ℕ, _/_, _≤_, _<_}
 use mathlib.Core.Path.{_≡_, refl, ap, _∙_, subst}
@@ -15,7 +15,7 @@ use Rattle.logic.specs.BelowLaws.{below-fails}
 use Rattle.numbers.specs.Cells.{cellAt}
 use Rattle.acts.specs.Calls.{lengthsFit}
 use Rattle.acts.specs.Lent.{lengths-fit}
-use Rattle.acts.specs.Worlds.{grid, Call, Accepted, openedWorld}
+use Rattle.acts.specs.Worlds.{Call, Accepted, openedWorld}
 use Rattle.quiet.specs.declared.Quarter.the-variants as Quarter
 use Rattle.quiet.specs.declared.Scan.the-variants as Scan
 use Rattle.quiet.specs.Quiet.{scanOf, readingAt}
@@ -24,10 +24,12 @@ use Rattle.summary.specs.declared.Summary.the-variants as Summary
 use Rattle.summary.specs.Summary.{hourOf, summaryOf}
 use Rattle.theory.specs.Array.{written}
 use Rattle.theory.specs.Order.{Done, Entry, Is, deeds, valueIn, writtenIn}
-use Rattle.demands.specs.Types.{Refusal, Terms, State, Memory, Ask}
-use Rattle.demands.specs.Book.{Run, run}
+use Rattle.demands.specs.Types.{Refusal, Terms, Hand, State, Memory}
+use Rattle.demands.specs.Kinds.{Kind}
+use Rattle.demands.specs.Book.{Book, Run, run}
 use Rattle.demands.specs.Demanded.{isBusy}
-use Rattle.bridge.specs.Views.{GoodRun}
+use Rattle.bridge.specs.Good.{Good}
+use Rattle.bridge.specs.Bridge.{Bridge}
 use Rattle.bridge.specs.Runs.{after-any-calls}
 use Rattle.bridge.specs.Proved as Proved
 use Rattle.bridge.specs.Theorems.{after}
@@ -35,15 +37,12 @@ use Rattle.resting.specs.AtRest.{Resting, restsIn, UnderWay, Tells, look
 use Rattle.resting.specs.Cells as Cells
 use Rattle.resting.specs.Hours as Hours
 
-good-shows : (r : Run State) → GoodRun r → Shown (r .world .state .terms) r
-good-shows r H = by (restsIn z (r .book)) refl
+good-shows : {pair : Bool} {s : State} {hand : ℕ → Hand} {mem : Memory} {b : Book} → Good pair s hand mem b → Shown (s .terms) s mem b
+good-shows {s = s} {mem = mem} {b = b} H = by (restsIn (s .terms) b) refl
   where
-    z : Terms
-    z = r .world .state .terms
-
-    by : (b : Bool) → restsIn z (r .book) ≡ b → Shown z r
+    by : (t : Bool) → restsIn (s .terms) b ≡ t → Shown (s .terms) s mem b
     by true e =
-        let rest = Hours.rests-resting z r e in
+        let rest = Hours.rests-resting (s .terms) b e in
         record {
           one-order = Cells.the-order H rest;
           at-rest = λ x. record {
@@ -55,24 +54,29 @@ good-shows r H = by (restsIn z (r .book)) refl
         }
     by false e = record {
       one-order = Proved.one-order H;
-      at-rest = λ rest. absurd (let x = Hours.resting-rests z r rest in let y : _≡_ {A = ℕ} 0 1 = cc in omega arith);
+      at-rest = λ rest. absurd (let x = Hours.resting-rests (s .terms) b rest in let y : _≡_ {A = ℕ} 0 1 = cc in omega arith);
       summary = λ h. Hours.summary-busy H e h ∙ rw e;
     }
 
 -- An operation under way is one that the test sees.
-pub under-way : (z : Terms) (r : Run State) → UnderWay z r → restsIn z (r .book) ≡ false
-under-way z r u = below-fails (z .p) (u .0) (λ (q : ℕ). not (isBusy (r .book .doing q))) (u .1) (ap not (u .2))
+pub under-way : (z : Terms) (b : Book) → UnderWay z b → restsIn z b ≡ false
+under-way z b u = below-fails (z .p) (u .0) (λ (q : ℕ). not (isBusy (b .doing q))) (u .1) (ap not (u .2))
 
-module _ (z : Terms) (mem : Memory) (ok : Accepted grid z mem) (calls : List (Call Ask z)) where
-  -- THE THEOREM
-  pub shown : Shown z (after z mem ok calls)
-  shown = after-any-calls z (Shown z) (λ r H. subst (λ (z : Terms). Shown z r) (H .terms) (good-shows r (H .good))) mem ok calls
-
+module _ {S A : Type 0} {K : Kind S A} (B : Bridge K) (z : Terms) (mem : Memory) (ok : Accepted (K .ours) z mem) (calls : List (Call A z)) where
   abbrev pub state : State
-  state = after z mem ok calls .world .state
+  state = K .grid (after B z mem ok calls .world .state)
 
   abbrev pub memory : Memory
-  memory = after z mem ok calls .world .memory
+  memory = after B z mem ok calls .world .memory
+
+  abbrev pub book : Book
+  book = after B z mem ok calls .book
+
+  -- THE THEOREM
+  pub shown : Shown z state memory book
+  shown =
+      after-any-calls B z (λ r. Shown z (K .grid (r .world .state)) (r .world .memory) (r .book))
+      (λ r R. subst (λ (z : Terms). Shown z (K .grid (r .world .state)) (r .world .memory) (r .book)) (R .terms) (good-shows (R .run .good))) mem ok calls
 
   abbrev pub order : List Entry
   order = shown .one-order .order
@@ -82,27 +86,28 @@ module _ (z : Terms) (mem : Memory) (ok : Accepted grid z mem) (calls : List (Ca
   values h = hourIn (filled z) order h
 
   -- What 9 (state), 10 and 8 look at.
-  abbrev Scanned : Terms → Run State → Type 0
-  Scanned z r = scanOf (r .world .state) ≡ pick (restsIn z (r .book)) Scan.AtRest Scan.AtWork
+  abbrev Scanned : Terms → Run S → Type 0
+  Scanned z r = scanOf (K .grid (r .world .state)) ≡ pick (restsIn z (r .book)) Scan.AtRest Scan.AtWork
 
-  abbrev Lent : Run State → Type 0
-  Lent r = lengthsFit (r .world .state .terms) (r .world .memory) ≡ true
+  abbrev Lent : Run S → Type 0
+  Lent r = lengthsFit (K .grid (r .world .state) .terms) (r .world .memory) ≡ true
 
-  pub scan-told : scanOf state ≡ pick (restsIn z (after z mem ok calls .book)) Scan.AtRest Scan.AtWork
-  scan-told = after-any-calls z (Scanned z) (λ r H. subst (λ (z : Terms). Scanned z r) (H .terms) (Hours.scan-told (H .good))) mem ok calls
+  pub scan-told : scanOf state ≡ pick (restsIn z book) Scan.AtRest Scan.AtWork
+  scan-told =
+      after-any-calls B z (Scanned z) (λ r R. subst (λ (z : Terms). Scanned z r) (R .terms) (Hours.scan-told (R .run .good))) mem ok calls
 
   pub lengths-told : lengthsFit (state .terms) memory ≡ true
-  lengths-told = after-any-calls z Lent (λ r H. lengths-fit (H .good .lengths)) mem ok calls
+  lengths-told = after-any-calls B z Lent (λ r R. lengths-fit (R .run .good .lengths)) mem ok calls
 
   -- 10 if an operation is under way, 5 if the hour is not there, 18 if none of its cells has a write; 9 and 8 do not occur.
-  pub summary-exactly : (h : ℕ) → summaryOf state h memory ≡ summaryIn z (after z mem ok calls .book) h (values h)
+  pub summary-exactly : (h : ℕ) → summaryOf state h memory ≡ summaryIn z book h (values h)
   summary-exactly = shown .summary
 
-  pub summary-under-way : TenUnderWay z (after z mem ok calls)
-  summary-under-way h u = summary-exactly h ∙ rw (under-way z (after z mem ok calls) u)
+  pub summary-under-way : TenUnderWay z state memory book
+  summary-under-way h u = summary-exactly h ∙ rw (under-way z book u)
 
-  module _ (rest : Resting z (after z mem ok calls)) where
-    pub written-at-rest : (i : ℕ) → i < z .m → Tells (looked (after z mem ok calls) (cellAt z i)) (writtenIn order i)
+  module _ (rest : Resting z book) where
+    pub written-at-rest : (i : ℕ) → i < z .m → Tells (looked state memory (cellAt z i)) (writtenIn order i)
     written-at-rest = shown .at-rest rest .written
 
     pub reading-at-rest : (i : ℕ) → i < z .m → readingAt state (cellAt z i) memory ≡ Quarter.Read (valueIn (filled z) order i) (writtenIn order i)
@@ -113,7 +118,7 @@ module _ (z : Terms) (mem : Memory) (ok : Accepted grid z mem) (calls : List (Ca
     from-18 vs = pick (eqb (length vs) 0) (Summary.Refused Refusal.NothingWritten) (Summary.Of (hourOf vs))
 
     there : (h : ℕ) → h < z .m / 4 → summaryOf state h memory ≡ from-18 (values h)
-    there h hh = summary-exactly h ∙ rw (Hours.resting-rests z (after z mem ok calls) rest, lt-ltb h (z .m / 4) hh)
+    there h hh = summary-exactly h ∙ rw (Hours.resting-rests z book rest, lt-ltb h (z .m / 4) hh)
 
     pub summary-at-rest : (h : ℕ) → h < z .m / 4 → values h ≢ [] → summaryOf state h memory ≡ Summary.Of (hourOf (values h))
     summary-at-rest h hh some = there h hh ∙ by (values h) some
@@ -126,7 +131,7 @@ module _ (z : Terms) (mem : Memory) (ok : Accepted grid z mem) (calls : List (Ca
     nothing-at-rest h hh none = there h hh ∙ ap from-18 none
 
     pub no-hour-at-rest : (h : ℕ) → z .m / 4 ≤ h → summaryOf state h memory ≡ Summary.Refused Refusal.NoSuchCell
-    no-hour-at-rest h hh = summary-exactly h ∙ rw (Hours.resting-rests z (after z mem ok calls) rest, le-ltb h (z .m / 4) hh)
+    no-hour-at-rest h hh = summary-exactly h ∙ rw (Hours.resting-rests z book rest, le-ltb h (z .m / 4) hh)
 
     -- 9 (state), 8, 10 and 9 (word) do not occur.
     pub refused-with-five-or-eighteen : (h : ℕ) (r : Refusal) → summaryOf state h memory ≡ Summary.Refused r → FiveOrEighteen z h (values h) r
@@ -150,10 +155,10 @@ unfolding written deeds
 no-values f h = refl
 
 -- 01's example 10: of a grid just opened, whatever its memory holds, every hour that is there gets 18.
-pub fresh-grid : (z : Terms) (mem : Memory) (ok : Accepted grid z mem) (h : ℕ) → h < z .m / 4
-    → summaryOf (openedWorld grid z mem .state) h mem ≡ Summary.Refused Refusal.NothingWritten
+pub fresh-grid : {S A : Type 0} {K : Kind S A} (B : Bridge K) (z : Terms) (mem : Memory) (ok : Accepted (K .ours) z mem) (h : ℕ) → h < z .m / 4
+    → summaryOf (K .grid (openedWorld (K .ours) z mem .state)) h mem ≡ Summary.Refused Refusal.NothingWritten
 unfolding run
-fresh-grid z mem ok h hh =
-    let S = shown z mem ok [] in
-    nothing-at-rest z mem ok [] (λ q hq. refl) h hh
-    (ap (λ (es : List Entry). hourIn (filled z) es h) (no-entries (S .one-order .order) (S .at-rest (λ q hq. refl) .finished)) ∙ no-values (filled z) h)
+fresh-grid B z mem ok h hh =
+    let T = shown B z mem ok [] in
+    nothing-at-rest B z mem ok [] (λ q hq. refl) h hh
+    (ap (λ (es : List Entry). hourIn (filled z) es h) (no-entries (T .one-order .order) (T .at-rest (λ q hq. refl) .finished)) ∙ no-values (filled z) h)

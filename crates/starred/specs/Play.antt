@@ -78,6 +78,8 @@ hasWritten Answer.Going n = false
 hasWritten (Answer.Read v b k) n = false
 hasWritten (Answer.Written k) n = eqb k n
 hasWritten (Answer.Asked b k) n = false
+hasWritten (Answer.Found v k) n = false
+hasWritten (Answer.Altered v b k) n = false
 hasWritten (Answer.Refused r) n = false
 
 abbrev pub isSeen : World State → Answer → Seen → Bool
@@ -97,6 +99,8 @@ refusalOf Answer.Going = 0
 refusalOf (Answer.Read v b k) = 0
 refusalOf (Answer.Written k) = 0
 refusalOf (Answer.Asked b k) = 0
+refusalOf (Answer.Found v k) = 0
+refusalOf (Answer.Altered v b k) = 0
 refusalOf (Answer.Refused r) = numberOf r
 
 abbrev pub openingRefusal : Opening → ℕ

@@ -81,6 +81,10 @@ module _ (ch : Change) (readings links directory pool : List ℕ) where
       → memory readings links ys pool ≡ memoryAfter ch (memory readings links directory pool)
   stored-directory k start ys e f = rw (e, f)
 
+  pub stored-both : (i v w : ℕ) (xs ys : List ℕ) → ch ≡ Change.Both i v w → xs ≡ set readings i v → ys ≡ set links i w
+      → memory xs ys directory pool ≡ memoryAfter ch (memory readings links directory pool)
+  stored-both i v w xs ys e f g = rw (e, f, g)
+
   pub stored-mark : (start mark : ℕ) (n : Place) (ys : List ℕ) → ch ≡ Change.Mark start n mark → ys ≡ set pool (start + offsetOf (n .0)) mark
       → memory readings links directory ys ≡ memoryAfter ch (memory readings links directory pool)
   stored-mark start mark n ys e f = rw (e, f)

@@ -12,6 +12,7 @@ same-steps Change.Nothing l = refl
 same-steps (Change.Reading i v) l = refl
 same-steps (Change.Link i w) l = refl
 same-steps (Change.Directory k w) l = refl
+same-steps (Change.Both i v w) l = refl
 same-steps (Change.Mark start n x) l = refl
 same-steps (Change.Marks n) l = refl
 same-steps (Change.Top top n) l = refl

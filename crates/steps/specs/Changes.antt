@@ -25,7 +25,7 @@ withMarks l n = record { marks = n; drawn = l .drawn; steps = l .steps; op = l .
 abbrev pub withDrawn : Lane → ℕ → Lane
 withDrawn l n = record { marks = l .marks; drawn = n; steps = l .steps; op = l .op }
 
--- One shared word changes, and nothing else.
+-- One shared word changes, or a cell's reading and link together, and nothing else.
 abbrev pub apply : Change → Reach → Reach
 apply Change.Nothing r = r
 apply (Change.Reading i v) r =
@@ -34,6 +34,8 @@ apply (Change.Link i w) r =
     reach (r .lane) (r .top) (memory (r .memory .readings) (set (r .memory .links) i w) (r .memory .directory) (r .memory .pool))
 apply (Change.Directory k start) r =
     reach (r .lane) (r .top) (memory (r .memory .readings) (r .memory .links) (set (r .memory .directory) k start) (r .memory .pool))
+apply (Change.Both i v w) r =
+    reach (r .lane) (r .top) (memory (set (r .memory .readings) i v) (set (r .memory .links) i w) (r .memory .directory) (r .memory .pool))
 apply (Change.Mark start n mark) r =
     reach (r .lane) (r .top)
     (memory (r .memory .readings) (r .memory .links) (r .memory .directory) (set (r .memory .pool) (start + offsetOf (n .0)) mark))

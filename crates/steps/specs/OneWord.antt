@@ -36,12 +36,13 @@ use Rattle.steps.specs.Steps as Steps
 use Rattle.steps.specs.Changes.{laneAfter, topAfter, memoryAfter}
 use Rattle.steps.specs.Touched.{heldIn, touchedMarking, touched}
 
--- A change is to this word, or to none.
+-- A change is to this one word, or to none.
 abbrev pub Stores : ℕ → Change → Word → Type 0
 Stores q Change.Nothing w = Unit {0}
 Stores q (Change.Reading i v) w = w ≡ Word.Reading i
 Stores q (Change.Link i x) w = w ≡ Word.Link i
 Stores q (Change.Directory k x) w = w ≡ Word.Directory k
+Stores q (Change.Both i v x) w = ⊥
 Stores q (Change.Mark start n x) w = w ≡ Word.Pool (start + offsetOf (n .0))
 Stores q (Change.Marks n) w = w ≡ Word.Marks q
 Stores q (Change.Top t n) w = w ≡ Word.Top
@@ -116,6 +117,7 @@ module _ (q top : ℕ) (l : Lane) (mem : Memory) (marks marks′ : ℕ → ℕ) 
   others-stay (Change.Reading i v) w e = rw e (reading-only i v)
   others-stay (Change.Link i x) w e = rw e (link-only i x)
   others-stay (Change.Directory k x) w e = rw e (directory-only k x)
+  others-stay (Change.Both i v x) w e = absurd e
   others-stay (Change.Mark start n x) w e = rw e (pool-only start n x)
   others-stay (Change.Marks n) w e = rw e (marks-only n)
   others-stay (Change.Top t n) w e = rw e (top-only t n)
@@ -126,6 +128,7 @@ drawn-stays q l Change.Nothing w e h = refl
 drawn-stays q l (Change.Reading i v) w e h = refl
 drawn-stays q l (Change.Link i x) w e h = refl
 drawn-stays q l (Change.Directory k x) w e h = refl
+drawn-stays q l (Change.Both i v x) w e h = refl
 drawn-stays q l (Change.Mark start n x) w e h = refl
 drawn-stays q l (Change.Marks n) w e h = refl
 drawn-stays q l (Change.Top t n) w e h = absurd (h e)
@@ -179,14 +182,16 @@ module _ (z : Terms) (top q : ℕ) (l : Lane) (inForce : ℕ → ℕ) (mem : Mem
   markings i (Marking.Swap w n) e = swaps _ (eqb (getD (mem .links) (indexOf z i) 0) w) _ _ e refl
   markings i (Marking.TakeBack n) e = this _ _ _ refl e
 
-  stores : (o : Op) → Turns (Steps.opTurn z top q l inForce mem o) → Stores q ch (touched z q (mem .directory) o)
-  stores Op.Idle e = none cc
-  stores (Op.Read i c) e = reads _ i (Steps.found z top q l inForce mem i c) e
-  stores (Op.Reading i) e = this _ Change.Nothing _ tt e
-  stores (Op.Asked i c) e = asks _ i (Steps.found z top q l inForce mem i c) e
-  stores (Op.Store i v) e = this _ _ _ refl e
-  stores (Op.Write i c) e = checks _ i (Steps.found z top q l inForce mem i c) e
-  stores (Op.Marking i k) e = markings i k e
+  pub op-stores : (o : Op) → Turns (Steps.opTurn z top q l inForce mem o) → Stores q ch (touched z q (mem .directory) o)
+  op-stores Op.Idle e = none cc
+  op-stores (Op.Read i c) e = reads _ i (Steps.found z top q l inForce mem i c) e
+  op-stores (Op.Reading i) e = this _ Change.Nothing _ tt e
+  op-stores (Op.Asked i c) e = asks _ i (Steps.found z top q l inForce mem i c) e
+  op-stores (Op.Store i v) e = this _ _ _ refl e
+  op-stores (Op.Write i c) e = checks _ i (Steps.found z top q l inForce mem i c) e
+  op-stores (Op.Marking i k) e = markings i k e
+  op-stores (Op.Alter i c) e = none cc
+  op-stores (Op.Apply i) e = none cc
 
   pub turn-stores : Turns (Steps.turnOf z top q l inForce mem) → Stores q ch (touched z q (mem .directory) (l .op))
-  turn-stores e = stores (l .op) e
+  turn-stores e = op-stores (l .op) e

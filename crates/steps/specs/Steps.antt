@@ -173,6 +173,9 @@ module _ (z : Terms) (top q : ℕ) (l : Lane) (inForce : ℕ → ℕ) (mem : Mem
   opTurn (Op.Write i c) = checkedTurn q l i (found i c)
   -- 3. to 8.
   opTurn (Op.Marking i k) = markingTurn z top q l (mem .links) (mem .directory) (mem .pool) i k
+  -- The second array's: refusal 9 comes before.
+  opTurn (Op.Alter i c) = Turn.Outside
+  opTurn (Op.Apply i) = Turn.Outside
 
   abbrev pub turnOf : Turn
   turnOf = opTurn (l .op)

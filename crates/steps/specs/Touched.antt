@@ -27,7 +27,7 @@ heldIn inForce top mem (Word.Pool k) = getD (mem .pool) k 0
 heldIn inForce top mem (Word.Marks q) = inForce q
 heldIn inForce top mem Word.Top = top
 
--- The one word that the next step of process q touches. A lane at rest takes no step.
+-- The one word that the next step of process q touches. A lane at rest takes no step, nor does an operation of the second array.
 abbrev pub touchedIn : Terms → Cell → Check → Word
 touchedIn z i Check.Link = Word.Link (indexOf z i)
 touchedIn z i (Check.Marks w) = Word.Marks (processOf w)
@@ -51,3 +51,5 @@ touched z q directory (Op.Asked i c) = touchedIn z i c
 touched z q directory (Op.Store i v) = Word.Reading (indexOf z i)
 touched z q directory (Op.Write i c) = touchedIn z i c
 touched z q directory (Op.Marking i k) = touchedMarking z q directory i k
+touched z q directory (Op.Alter i c) = Word.Top
+touched z q directory (Op.Apply i) = Word.Top

@@ -27,13 +27,15 @@ pub enum Found {
     Written,
 }
 
-// The one shared word that a step changes.
+// The one shared word that a step changes; of the second array also a cell's reading and link together.
 pub enum Change {
     Nothing,
     // the reading, the link, the directory word at an index
     Reading(usize, u32),
     Link(usize, u64),
     Directory(usize, u32),
+    // the reading and the link at an index, together
+    Both(usize, u32, u64),
     // the mark at a place of the segment that starts there
     Mark(u32, Place, Mark),
     // the marks in force
@@ -59,6 +61,9 @@ pub enum Next {
     Read(u32, bool),
     Written,
     Asked(bool),
+    // of the second array: a read's value alone; the reading that was found, and whether it was set
+    Found(u32),
+    Altered(u32, bool),
 }
 
 // What one step does.

@@ -1,4 +1,4 @@
-// A change of one shared word, stored into the lent memories.
+// A change stored into the lent memories.
 ghost use mathlib.Core.Path.{_≡_};
 ghost use Prim.Native.Nat.{_+_};
 ghost use lib.ListN.{set};
@@ -52,6 +52,10 @@ pub fn store(
         Change::Reading(i, v) => put(readings, i, v),
         Change::Link(i, w) => put_wide(links, i, w),
         Change::Directory(k, start) => put(directory, k, start),
+        Change::Both(i, v, w) => {
+            put(readings, i, v);
+            put_wide(links, i, w);
+        }
         Change::Mark(start, n, mark) => put_mark(pool, start, n, mark),
         Change::Marks(_) => {}
         Change::Top(_, _) => {}

@@ -14,6 +14,7 @@ use Rattle.lanes.specs.declared.Check.{Check}
 use Rattle.lanes.specs.declared.Check.the-variants as Check
 use Rattle.lanes.specs.declared.Op.{Op}
 use Rattle.lanes.specs.declared.Op.the-variants as Op
+use Rattle.lanes.specs.declared.Whose.the-variants as Whose
 use Rattle.lanes.specs.declared.Lane.{Lane}
 use Rattle.lanes.specs.declared.State.{State}
 use Rattle.lanes.specs.Ranges.{laneOf, checkFits, restFits, laneFits, sizesFit}
@@ -49,8 +50,10 @@ module _ (z : Terms) (first step : ℕ) where
   same-rest (Op.Store i v) = refl
   same-rest (Op.Write i c) = same-check c
   same-rest (Op.Marking i k) = refl
+  same-rest (Op.Alter i c) = same-check c
+  same-rest (Op.Apply i) = refl
 
-  same-lane : (l : Lane) → laneFits filled l ≡ laneFits z l
+  same-lane : (l : Lane) → laneFits Whose.Either filled l ≡ laneFits Whose.Either z l
   same-lane l = rw (same-rest (l .op))
 
 module _ (s : State) (first step : ℕ) (mem : Memory) where

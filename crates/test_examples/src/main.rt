@@ -76,6 +76,8 @@ fn answered(a: Answer) {
         Answer::Read(v, _, _) => named(b"read", v as u64),
         Answer::Written(n) => named(b"written", n as u64),
         Answer::Asked(_, n) => named(b"asked", n as u64),
+        Answer::Found(v, _) => named(b"read", v as u64),
+        Answer::Altered(v, _, _) => named(b"was", v as u64),
         Answer::Refused(r) => named(b"refused", refusals::number(r) as u64),
     }
 }

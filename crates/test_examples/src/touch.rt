@@ -62,5 +62,7 @@ pub fn touched(z: Terms, q: Process, directory: &[u32], o: Op) -> Word
         Op::Store(i, _) => Word::Reading(numbers::index_of(z, i)),
         Op::Write(i, c) => touched_in(z, i, c),
         Op::Marking(i, k) => touched_marking(z, q, directory, i, k),
+        Op::Alter(_, _) => Word::Top,
+        Op::Apply(_) => Word::Top,
     }
 }

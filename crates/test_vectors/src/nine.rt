@@ -76,7 +76,13 @@ fn op_of(n: Nine) -> Op {
     if s < 15 {
         return Op::Write(cell, check_of(n, s - 11));
     }
-    Op::Marking(cell, marking_of(n))
+    if s < 22 {
+        return Op::Marking(cell, marking_of(n));
+    }
+    if s < 26 {
+        return Op::Alter(cell, check_of(n, s - 22));
+    }
+    Op::Apply(cell)
 }
 
 pub fn lane_of(n: Nine) -> Lane {
@@ -106,7 +112,7 @@ fn made(l: Lane, stage: u64, cell: u32, value: u32, link: u64, place: u64, start
 
 // `stage` is the number of the operation's (a).
 fn checking(l: Lane, stage: u64, i: Cell, c: Check) -> Nine
-    requires { ⌜ stage ≤ 11 ⌝ }
+    requires { ⌜ stage ≤ 22 ⌝ }
 {
     match c {
         Check::Link => made(l, stage, i.0, 0, 0, 0, 0),
@@ -148,5 +154,7 @@ pub fn nine_of(l: Lane) -> Nine {
         Op::Store(i, v) => made(l, 10, i.0, v, 0, 0, 0),
         Op::Write(i, c) => checking(l, 11, i, c),
         Op::Marking(i, k) => marking(l, i, k),
+        Op::Alter(i, c) => checking(l, 22, i, c),
+        Op::Apply(i) => made(l, 26, i.0, 0, 0, 0, 0),
     }
 }

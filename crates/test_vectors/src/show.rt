@@ -60,6 +60,15 @@ fn told(buf: &mut [u8], at: usize, a: Answer) -> usize {
             let e = out::bytes(buf, at, b"asked");
             two(buf, e, bit(b), n as u64)
         }
+        Answer::Found(v, n) => {
+            let e = out::bytes(buf, at, b"read");
+            two(buf, e, v as u64, n as u64)
+        }
+        Answer::Altered(v, b, n) => {
+            let e = out::bytes(buf, at, b"was");
+            let e = out::next_number(buf, e, v as u64);
+            two(buf, e, bit(b), n as u64)
+        }
         Answer::Refused(r) => refused(buf, at, r),
     }
 }

@@ -1,7 +1,7 @@
 -- The lines of the output from their words and numbers: none is cut.
 -- Assumes nothing.
 use Prim.Native.Nat.{ℕ, suc, _+_, _^_, _<_, _≤_}
-use mathlib.Core.Path.{_≡_}
+use mathlib.Core.Path.{_≡_, ap}
 use mathlib.Core.Bool.{Bool, true, false}
 use mathlib.Core.List.{List, [], _++_}
 use native.Mathlib.Omega.{arith}
@@ -41,22 +41,37 @@ module _ (l r : Line) (a : Answer) where
   pub said-going : a ≡ Answer.Going → Grown l r (word "going") → Said l r a
   said-going e g = rw e (record { grown = g; short = omega arith })
 
-  pub said-read : (x : Line) (b : Bool) (v w n : ℕ) → v < 4294967296 → w ≡ bit b → n < 256 → a ≡ Answer.Read v b n → Grown l x (word "read ")
-      → Grown x r (three v w n)
-      → Said l r a
-  said-read x b v w n h i k e f g =
+  -- a word, a value, a bit and the steps
+  said-three : (t : List ℕ) (x : Line) (b : Bool) (v w n : ℕ) → length t ≤ 5 → v < 4294967296 → w ≡ bit b → n < 256 → saying a ≡ t ++ three v (bit b) n
+      → Grown l x t → Grown x r (three v w n) → Said l r a
+  said-three t x b v w n few h i k e f g =
       let g′ : Grown x r (three v (bit b) n) = rw i at g in
-      rw e
-      (record {
-        grown = then l x r (word "read ") (three v (bit b) n) f g′;
-        short = omega (
+      record {
+        grown = rw e (then l x r t (three v (bit b) n) f g′);
+        short = rw e (omega (
           arith,
           decimal-short 9 v (omega arith),
           two-length 0 (bit b) n (small b) k,
-          length-append (word "read ") (three v (bit b) n),
+          length-append t (three v (bit b) n),
           length-append (decimal v) (word " " ++ two (bit b) n),
           length-append (word " ") (two (bit b) n),
-        );
+        ));
+      }
+
+  pub said-read : (x : Line) (b : Bool) (v w n : ℕ) → v < 4294967296 → w ≡ bit b → n < 256 → a ≡ Answer.Read v b n → Grown l x (word "read ")
+      → Grown x r (three v w n) → Said l r a
+  said-read x b v w n h i k e f g = said-three (word "read ") x b v w n (omega arith) h i k (ap saying e) f g
+
+  pub said-altered : (x : Line) (b : Bool) (v w n : ℕ) → v < 4294967296 → w ≡ bit b → n < 256 → a ≡ Answer.Altered v b n → Grown l x (word "was ")
+      → Grown x r (three v w n) → Said l r a
+  said-altered x b v w n h i k e f g = said-three (word "was ") x b v w n (omega arith) h i k (ap saying e) f g
+
+  pub said-found : (x : Line) (v n : ℕ) → v < 4294967296 → n < 256 → a ≡ Answer.Found v n → Grown l x (word "read ") → Grown x r (two v n) → Said l r a
+  said-found x v n h k e f g =
+      rw e
+      (record {
+        grown = then l x r (word "read ") (two v n) f g;
+        short = omega (arith, two-length 9 v n (omega arith) k, length-append (word "read ") (two v n));
       })
 
   pub said-written : (x : Line) (n : ℕ) → n < 256 → a ≡ Answer.Written n → Grown l x (word "written ") → Grown x r (decimal n) → Said l r a

@@ -10,7 +10,7 @@ use Rattle.acts.specs.declared.Answer.the-variants as Answer
 use Rattle.byte_lists.specs.Bytes.{word, newline, decimal}
 
 -- One of: begun; going; read V B N (B is 1 if the cell is written, 0 if not); written N; asked B N; refused R. N is the operation's
--- own steps.
+-- own steps. Of the second array: read V N; was V B N (the reading was V; B is 1 if it was set, 0 if not).
 abbrev pub bit : Bool → ℕ
 bit true = 1
 bit false = 0
@@ -27,6 +27,8 @@ saying Answer.Going = word "going"
 saying (Answer.Read v b n) = word "read " ++ three v (bit b) n
 saying (Answer.Written n) = word "written " ++ decimal n
 saying (Answer.Asked b n) = word "asked " ++ two (bit b) n
+saying (Answer.Found v n) = word "read " ++ two v n
+saying (Answer.Altered v b n) = word "was " ++ three v (bit b) n
 saying (Answer.Refused r) = word "refused " ++ decimal (numberOf r)
 
 -- Per record its number from 0 and its answer.

@@ -39,6 +39,8 @@ fn said(l: Line, a: Answer) -> Line
         Answer::Read(v, b, n) => three(line::word(l, b"read "), v as u64, bit(b), n as u64),
         Answer::Written(n) => line::number(line::word(l, b"written "), n as u64),
         Answer::Asked(b, n) => two(line::word(l, b"asked "), bit(b), n as u64),
+        Answer::Found(v, n) => two(line::word(l, b"read "), v as u64, n as u64),
+        Answer::Altered(v, b, n) => three(line::word(l, b"was "), v as u64, bit(b), n as u64),
         Answer::Refused(r) => line::number(line::word(l, b"refused "), refusals::number(r) as u64),
     }
 }

@@ -10,22 +10,22 @@ abbrev pub pick {ℓ κ} : {P : Type κ} {A : Type ℓ} → Dec P → A → A �
 pick (yes h) a b = a
 pick (no h) a b = b
 
+pub pick-yes {ℓ κ} : {P : Type κ} {A : Type ℓ} (d : Dec P) (a b : A) → P → pick d a b ≡ a
+pick-yes (yes h) a b p = refl
+pick-yes (no h) a b p = absurd (h p)
+
+pub pick-no {ℓ κ} : {P : Type κ} {A : Type ℓ} (d : Dec P) (a b : A) → (P → ⊥) → pick d a b ≡ b
+pick-no (yes h) a b n = absurd (n h)
+pick-no (no h) a b n = refl
+
 -- the function f, but v at i
 unfoldable pub upd {ℓ} : {A : Type ℓ} → (ℕ → A) → ℕ → A → ℕ → A
 upd f i v j = pick (ℕ-discrete j i) v (f j)
 
 pub upd-same {ℓ} : {A : Type ℓ} (f : ℕ → A) (i : ℕ) (v : A) → upd f i v i ≡ v
 unfolding upd
-upd-same f i v = go (ℕ-discrete i i)
-  where
-    go : (d : Dec (i ≡ i)) → pick d v (f i) ≡ v
-    go (yes h) = refl
-    go (no h) = absurd (h refl)
+upd-same f i v = pick-yes (ℕ-discrete i i) v (f i) refl
 
 pub upd-other {ℓ} : {A : Type ℓ} (f : ℕ → A) (i : ℕ) (v : A) (j : ℕ) → j ≢ i → upd f i v j ≡ f j
 unfolding upd
-upd-other f i v j ne = go (ℕ-discrete j i)
-  where
-    go : (d : Dec (j ≡ i)) → pick d v (f j) ≡ f j
-    go (yes h) = absurd (ne h)
-    go (no h) = refl
+upd-other f i v j ne = pick-no (ℕ-discrete j i) v (f j) ne

@@ -1,26 +1,27 @@
 -- A beginning keeps the invariant, and an opened grid has it.
 -- Assumes nothing.
-use mathlib.Core.Path.{_≡_, refl, sym, ap, _∙_}
+use mathlib.Core.Path.{_≡_, refl, sym, ap, _∙_, subst}
 use mathlib.Core.Logic.{_⊎_, inl, inr, ⊎-elim, _≢_}
 use mathlib.Core.List.{[], List·Memᴰ}
 use Prim.Native.Nat.{ℕ, _<_}
 use native.Mathlib.Decide.{ℕ-discrete}
 use native.Mathlib.Omega.{arith}
 use Rattle.theory.specs.Base.{upd, upd-same, upd-other}
-use Rattle.theory.specs.Array.{Op, read, asked, write, written}
+use Rattle.theory.specs.Array.{Op, read, asked, write, alter, written}
 use Rattle.theory.specs.Order.{Done, Entry, deeds, Is}
-use Rattle.theory.specs.Machine.{Grid, Link, Stage, Lane, idle, busy, firstStage, started, opened}
-use Rattle.theory.specs.Standing.{settledAt, settled}
+use Rattle.theory.specs.Machine.{Grid, Link, Seen, Suits, Stage, Lane, idle, busy, sight, firstStage, started, opened}
+use Rattle.theory.specs.Standing.{After, settledAt, settled}
 use Rattle.theory.specs.OrderLaws.{began-before}
-use Rattle.theory.specs.World.{World, Unplaced}
-use Rattle.theory.specs.Claims.{Stored}
+use Rattle.theory.specs.World.{World, Known, known-while, Unplaced}
+use Rattle.theory.specs.Claims.{writes-is, Stored}
 use Rattle.theory.specs.OneOrder.{Under}
 use Rattle.theory.specs.Inv.{StageOk, BusyOk, LaneOk, CellOk, old, new, Inv}
+use Rattle.theory.specs.Plan.{first-cases}
 use Rattle.theory.specs.ClaimsKept.{Frame}
 use Rattle.theory.specs.Frame.{lane-frame}
 
-module _ {G : Grid} {oldLink : ℕ → Link} {W : World} (I : Inv G oldLink W) (q : ℕ) (o : Op) (i : ℕ) (free : W .w .lane q ≡ idle) (hq : q < G .p)
-    (hi : i < G .m) where
+module _ {G : Grid} {oldLink : ℕ → Seen} {W : World} (I : Inv G oldLink W) (q : ℕ) (o : Op) (i : ℕ) (free : W .w .lane q ≡ idle) (hq : q < G .p)
+    (hi : i < G .m) (suits : Suits (G .pair) o) where
   abbrev pub opening : World
   opening = record { w = started (W .w) q o i; log = W .log; used = W .used }
 
@@ -70,25 +71,20 @@ module _ {G : Grid} {oldLink : ℕ → Link} {W : World} (I : Inv G oldLink W) (
   fresh-me z m = rw since-mine (λ h. let y : ⊥ = omega (arith, began-before (G .f) (W .log) (I .logs .orderly) z m, I .logs .early z m) in y)
 
   first : (o : Op) → Unplaced G oldLink opening q → StageOk G oldLink opening q o i (firstStage o)
-  first read u = u
-  first asked u = u
+  first (read flag) u = (u, λ v w. w)
+  first asked u = (u, λ v w. w)
   first (write v) u = (u, (v, refl))
+  first (alter a) u = (u, λ v w. w)
 
-  not-stored : (o : Op) (j v : ℕ) → Stored (busy o i (firstStage o)) j v → ⊥
-  not-stored read j v s = s .0
-  not-stored asked j v s = s .0
-  not-stored (write y) j v s = s .2
-
-  first-settled : (o : Op) (c : ℕ) → settledAt (firstStage o) c ≡ c
-  first-settled read c = refl
-  first-settled asked c = refl
-  first-settled (write v) c = refl
+  -- a write begins with its store
+  not-stored : (j v : ℕ) → Stored (busy o i (firstStage o)) j v → ⊥
+  not-stored j v s = subst (λ (x : Op). After (firstStage x)) (writes-is o v (s .0)) (s .2)
 
   settled-same : (r : ℕ) (c : ℕ) → settled (upd (W .w .lane) q l r) c ≡ settled (W .w .lane r) c
   settled-same r c = by (ℕ-discrete r q)
     where
       by : Dec (r ≡ q) → settled (upd (W .w .lane) q l r) c ≡ settled (W .w .lane r) c
-      by (yes h) = rw h (rw (mine, free) (first-settled o c))
+      by (yes h) = rw h (rw (mine, free) (first-cases (λ g. settledAt g c ≡ c) o refl refl))
       by (no h) = rw (other r h)
 
   pub start-inv : Inv G oldLink opening
@@ -105,7 +101,7 @@ module _ {G : Grid} {oldLink : ℕ → Link} {W : World} (I : Inv G oldLink W) (
       lanes′ r = by (ℕ-discrete r q)
         where
           by : Dec (r ≡ q) → LaneOk G oldLink opening r (upd (W .w .lane) q l r)
-          by (yes h) = rw h (rw mine (record { proc = hq; cell = hi; past = rw since-mine (omega arith); at = first o fresh-me }))
+          by (yes h) = rw h (rw mine (record { proc = hq; cell = hi; kind = suits; past = rw since-mine (omega arith); at = first o fresh-me }))
           by (no h) = lane-frame framed r h (I .lanes r)
 
       to : (r j v : ℕ) → Stored (W .w .lane r) j v → Stored (upd (W .w .lane) q l r) j v
@@ -119,12 +115,15 @@ module _ {G : Grid} {oldLink : ℕ → Link} {W : World} (I : Inv G oldLink W) (
       fro r j v s = by (ℕ-discrete r q)
         where
           by : Dec (r ≡ q) → Stored (W .w .lane r) j v
-          by (yes h) = absurd (not-stored o j v (rw mine at (rw h at s)))
+          by (yes h) = absurd (not-stored j v (rw mine at (rw h at s)))
           by (no h) = rw (other r h) at s
+
+      known : (j : ℕ) → Known W j → Known opening j
+      known j = known-while W opening j refl (λ d. other (d .who) (not-me (d .who) (alter (d .act)) j Stage.apply (d .lane)))
 
       cell : (j : ℕ) → CellOk G oldLink W j → CellOk G oldLink opening j
       cell j (old t k s) = old t k (λ r v h. let y = s r v (fro r j v h) in (y .0, to (y .0) j _ (y .1)))
-      cell j (new t y v p₀ p₁ p₂) = new t y v p₀ (rw settled-same p₁) p₂
+      cell j (new t y v p₀ p₁ p₂) = new t (known j y) v p₀ (rw settled-same p₁) p₂
 
       apart′ : (a r : ℕ) (o₁ o₂ : Op) (i₁ i₂ : ℕ) (g₁ g₂ : Stage) → upd (W .w .lane) q l a ≡ busy o₁ i₁ g₁ → upd (W .w .lane) q l r ≡ busy o₂ i₂ g₂
           → upd (W .w .since) q (W .w .now) a ≡ upd (W .w .since) q (W .w .now) r → a ≡ r
@@ -164,8 +163,12 @@ module _ {G : Grid} {oldLink : ℕ → Link} {W : World} (I : Inv G oldLink W) (
               (λ y. let v : ⊥ = omega (arith, began-before (G .f) (W .log) (I .logs .orderly) (c .0) (c .1), I .logs .early (c .0) (c .1), c .2 .began) in v))
           by (no h) = rw (since-other r h) (I .logs .over d m r o₁ i₁ g₁ (sym (other r h) ∙ k))
 
+-- what (a) would see of each cell of a grid as opened
+abbrev pub oldSeen : Grid → (ℕ → ℕ) → (ℕ → Link) → ℕ → Seen
+oldSeen G readings links i = sight G (links i) (readings i)
+
 pub opened-inv : (G : Grid) (readings : ℕ → ℕ) (links : ℕ → Link) (marks : ℕ → ℕ → ℕ)
-    → Inv G links (record { w = opened readings links marks; log = []; used = λ q. 0 })
+    → Inv G (oldSeen G readings links) (record { w = opened readings links marks; log = []; used = λ q. 0 })
 unfolding opened written deeds
 opened-inv G readings links marks = record {
   lanes = λ q. tt;

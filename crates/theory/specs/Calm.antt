@@ -1,25 +1,29 @@
 -- The invariant after a step of process q, from what the step does to its own lane, to the order and to the cells.
 -- Assumes nothing.
-use mathlib.Core.Path.{_≡_, refl, sym, _∙_}
+use mathlib.Core.Path.{_≡_, refl, sym, ap, _∙_, subst}
 use mathlib.Core.Logic.{_⊎_, ⊎-elim, _≢_}
-use mathlib.Core.Bool.{true}
+use mathlib.Core.Bool.{false}
 use mathlib.Core.List.{List, List·Memᴰ}
 use Prim.Native.Nat.{ℕ, _≤_, _<_}
 use native.Mathlib.Decide.{ℕ-discrete}
 use native.Mathlib.Omega.{arith}
 use Rattle.theory.specs.Base.{upd, upd-same, upd-other}
-use Rattle.theory.specs.Array.{Op}
+use Rattle.theory.specs.Array.{Op, alter, Act, second}
 use Rattle.theory.specs.Order.{Entry, valueIn, writtenIn}
-use Rattle.theory.specs.Machine.{Grid, Link, mk, Stage, busy, Mem, Next, nextLane}
+use Rattle.theory.specs.Machine.{Grid, mk, Seen, Stage, busy, Mem, Next, nextLane}
 use Rattle.theory.specs.Standing.{After, settledAt, settled}
-use Rattle.theory.specs.World.{World, Swapped, Unplaced}
-use Rattle.theory.specs.Claims.{Stored, Wrote}
-use Rattle.theory.specs.Inv.{LaneOk, CellOk, old, new, LogOk, Inv}
+use Rattle.theory.specs.World.{World, Known, known-while, its-link, Swapped, Unplaced}
+use Rattle.theory.specs.Claims.{writes-is, Stored, Wrote}
+use Rattle.theory.specs.Inv.{BusyOk, LaneOk, CellOk, old, new, LogOk, Inv}
 use Rattle.theory.specs.Log.{turned}
 use Rattle.theory.specs.ClaimsKept.{NotStored, Frame}
 use Rattle.theory.specs.Frame.{lane-frame}
 
-module _ {G : Grid} {oldLink : ℕ → Link} {W : World} (I : Inv G oldLink W) (q : ℕ) {o : Op} {i : ℕ} {g : Stage} (e : W .w .lane q ≡ busy o i g)
+-- an operation that stands where a stored write may is none that is due
+pub not-due : (o : Op) (i : ℕ) (g : Stage) → After g → (a : Act) (j : ℕ) → busy o i g ≢ busy (alter a) j Stage.apply
+not-due o i g s a j k = let h : g ≡ Stage.apply = cc in subst After h s
+
+module _ {G : Grid} {oldLink : ℕ → Seen} {W : World} (I : Inv G oldLink W) (q : ℕ) {o : Op} {i : ℕ} {g : Stage} (e : W .w .lane q ≡ busy o i g)
     (M : Mem) (used : ℕ → ℕ) (nx : Next) where
   -- what the step does to its own lane's numbers and marks
   pub record Own : Type 0 where
@@ -30,7 +34,7 @@ module _ {G : Grid} {oldLink : ℕ → Link} {W : World} (I : Inv G oldLink W) (
     pub rise : settledAt g (W .w .mem .inForce q) ≤ settled (nextLane o i nx) (M .inForce q)
     pub kept : (n : ℕ) → n < settledAt g (W .w .mem .inForce q) → M .marks q n ≡ W .w .mem .marks q n
     pub counts : (settled (nextLane o i nx) (M .inForce q) ≤ M .inForce q) × (M .inForce q ≤ used q)
-    pub places : (n j : ℕ) → j < G .m → n < used q → M .marks q n ≡ G .code j → oldLink j ≢ mk q n
+    pub places : (n j : ℕ) → j < G .m → n < used q → M .marks q n ≡ G .code j → oldLink j .at ≢ mk q n
 
   module _ (log : List Entry) (O : Own) where
     abbrev W′ : World
@@ -63,10 +67,10 @@ module _ {G : Grid} {oldLink : ℕ → Link} {W : World} (I : Inv G oldLink W) (
         by (yes k) = rw k (rw mine (O .counts))
         by (no k) = rw (other r k, O .inForce r k, O .usedOther r k) (I .counts r)
 
-    places′ : (r n j : ℕ) → j < G .m → n < used r → M .marks r n ≡ G .code j → oldLink j ≢ mk r n
+    places′ : (r n j : ℕ) → j < G .m → n < used r → M .marks r n ≡ G .code j → oldLink j .at ≢ mk r n
     places′ r n j hj = by (ℕ-discrete r q)
       where
-        by : Dec (r ≡ q) → n < used r → M .marks r n ≡ G .code j → oldLink j ≢ mk r n
+        by : Dec (r ≡ q) → n < used r → M .marks r n ≡ G .code j → oldLink j .at ≢ mk r n
         by (yes k) = rw k (O .places n j hj)
         by (no k) = rw (O .usedOther r k, O .marks r n k) (I .places r n j hj)
 
@@ -102,11 +106,11 @@ module _ {G : Grid} {oldLink : ℕ → Link} {W : World} (I : Inv G oldLink W) (
         apart′ a r o₁ o₂ i₁ i₂ g₁ g₂ h k z = let x = was a o₁ i₁ g₁ h in
             let y = was r o₂ i₂ g₂ k in I .apart a r (x .0) (y .0) (x .1) (y .1) (x .2) (y .2) (x .3) (y .3) z
 
-    -- the order is as it was, or longer by an entry of q's; swapped links and written cells stay
+    -- the order is as it was, or longer by an entry of q's; swapped links stay, and in the first array written cells
     pub record Quiet : Type 0 where
       pub more : (z : Entry) → List·Memᴰ z (W .log) → List·Memᴰ z log
       pub less : (z : Entry) → List·Memᴰ z log → List·Memᴰ z (W .log) ⊎ (z .began ≡ W .w .since q)
-      pub same : (j : ℕ) → writtenIn log j ≡ writtenIn (W .log) j
+      pub same : G .pair ≡ false → (j : ℕ) → writtenIn log j ≡ writtenIn (W .log) j
       pub link : (j : ℕ) → Swapped G oldLink W j → M .link j ≡ W .w .mem .link j
 
     pub quiet-frame : Quiet → Frame G oldLink q W W′
@@ -138,23 +142,27 @@ module _ {G : Grid} {oldLink : ℕ → Link} {W : World} (I : Inv G oldLink W) (
         wrote′ r o₁ i₁ g₁ ne k a h = record {
           v = h .v;
           is = h .is;
-          new = λ t. let x = h .new (sym (Q .same i₁) ∙ t) in (x .0, Q .more _ (x .1));
-          old = λ t. un r o₁ i₁ g₁ ne k (h .old (sym (Q .same i₁) ∙ t));
+          new = λ t. let x = h .new (sym same ∙ t) in (x .0, Q .more _ (x .1));
+          old = λ t. un r o₁ i₁ g₁ ne k (h .old (sym same ∙ t));
         }
+          where
+            same : writtenIn log i₁ ≡ writtenIn (W .log) i₁
+            same = let b : BusyOk G oldLink W r o₁ i₁ g₁ = rw k at (I .lanes r) in Q .same (b .kind ∙ ap second (writes-is o₁ (h .v) (h .is))) i₁
 
-    -- cell j's words and the array there stay, and who has stored
+    -- cell j's words and the array there stay, and who has stored; and the own operation is none that is due there
     pub record Still (j : ℕ) : Type 0 where
       pub same : writtenIn log j ≡ writtenIn (W .log) j
       pub vals : valueIn (G .f) log j ≡ valueIn (G .f) (W .log) j
       pub link : M .link j ≡ W .w .mem .link j
       pub reading : M .reading j ≡ W .w .mem .reading j
-      pub hold : (v : ℕ) → W .w .mem .link j ≡ oldLink j → Stored (busy o i g) j v → Stored (nextLane o i nx) j v
+      pub hold : (v : ℕ) → W .w .mem .link j ≡ oldLink j .at → Stored (busy o i g) j v → Stored (nextLane o i nx) j v
       pub from : (v : ℕ) → Stored (nextLane o i nx) j v → Stored (busy o i g) j v
+      pub undue : (a : Act) → busy o i g ≢ busy (alter a) j Stage.apply
 
     -- a cell with a swapped link keeps its certificate
-    pub certified : (j : ℕ) → M .link j ≡ W .w .mem .link j → writtenIn log j ≡ true → valueIn (G .f) log j ≡ M .reading j → CellOk G oldLink W j
+    pub certified : (j : ℕ) → M .link j ≡ W .w .mem .link j → Known W′ j → valueIn (G .f) log j ≡ M .reading j → CellOk G oldLink W j
         → Swapped G oldLink W j → CellOk G oldLink W′ j
-    certified j l t v (old t₀ k s) t₁ = absurd (t₁ k)
+    certified j l t v (old t₀ k s) t₁ = absurd (t₁ (its-link k))
     certified j l t v (new t₀ y x p₀ p₁ p₂) t₁ =
         new (rw l t₁) t v (rw l p₀) (rw l (omega (arith, p₁, rises (W .w .mem .link j .proc))))
         (rw l (keeps (W .w .mem .link j .proc) (W .w .mem .link j .place) p₁ ∙ p₂))
@@ -162,7 +170,7 @@ module _ {G : Grid} {oldLink : ℕ → Link} {W : World} (I : Inv G oldLink W) (
     pub still-cell : (j : ℕ) → Still j → j < G .m → CellOk G oldLink W′ j
     still-cell j S hj = by (I .cells j hj)
       where
-        to : (r v : ℕ) → W .w .mem .link j ≡ oldLink j → Stored (W .w .lane r) j v → Stored (upd (W .w .lane) q (nextLane o i nx) r) j v
+        to : (r v : ℕ) → W .w .mem .link j ≡ oldLink j .at → Stored (W .w .lane r) j v → Stored (upd (W .w .lane) q (nextLane o i nx) r) j v
         to r v t s = go′ (ℕ-discrete r q)
           where
             go′ : Dec (r ≡ q) → Stored (upd (W .w .lane) q (nextLane o i nx) r) j v
@@ -176,8 +184,10 @@ module _ {G : Grid} {oldLink : ℕ → Link} {W : World} (I : Inv G oldLink W) (
             go′ (yes k) = rw k (rw e (S .from v (rw mine at (rw k at s))))
             go′ (no k) = rw (other r k) at s
 
+        known : Known W j → Known W′ j
+        known = known-while W W′ j (S .same) (λ d. other (d .who) (λ h. S .undue (d .act) (sym e ∙ ap (W .w .lane) (sym h) ∙ d .lane)))
+
         by : CellOk G oldLink W j → CellOk G oldLink W′ j
-        by (old t k s) =
-            old (S .same ∙ t) (S .link ∙ k)
-            (λ r v h. let x = s r v (fro r v h) in (x .0, rw (S .reading) (to (x .0) (W .w .mem .reading j) (k) (x .1))))
-        by (new t y v p₀ p₁ p₂) = certified j (S .link) (S .same ∙ y) (S .vals ∙ v ∙ sym (S .reading)) (new t y v p₀ p₁ p₂) t
+        by (old t k s) = old (S .same ∙ t) (rw (S .link, S .reading) k)
+            (λ r v h. let x = s r v (fro r v h) in (x .0, rw (S .reading) (to (x .0) (W .w .mem .reading j) (its-link k) (x .1))))
+        by (new t y v p₀ p₁ p₂) = certified j (S .link) (known y) (S .vals ∙ v ∙ sym (S .reading)) (new t y v p₀ p₁ p₂) t

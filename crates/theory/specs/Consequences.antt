@@ -8,7 +8,7 @@ use native.Mathlib.Omega.{arith}
 use Rattle.theory.specs.Array.{Op}
 use Rattle.theory.specs.Order.{Done, Is, OrderOf}
 use Rattle.theory.specs.Segments.{off-inside, pow-pos}
-use Rattle.theory.specs.Machine.{Grid, mostMarks, poolWords, Lawful, Seen, Marking, Stage, marking, busy, Mem}
+use Rattle.theory.specs.Machine.{Grid, mostMarks, poolWords, Lawful, Seen, Suits, Marking, Stage, marking, busy, Mem}
 use Rattle.theory.specs.Words.{address}
 use Rattle.theory.specs.Run.{Run}
 use Rattle.theory.specs.OneOrder.{Under, OneOrder}
@@ -69,7 +69,10 @@ module _ {G : Grid} (A : Lawful G) {R : Run} (H : Whole G R) where
   pub front-fits : (q : ℕ) → front (R .watch .lane q) (M .inForce q) < mostMarks G
   front-fits = Ranges.front-le (H .account) (H .ones)
 
-  -- the process and the cell of an operation under way
+  -- an operation under way is one of the array's; its process and its cell
+  pub op-suits : (q : ℕ) {o : Op} {i : ℕ} {g : Stage} → R .watch .lane q ≡ busy o i g → Suits (G .pair) o
+  op-suits q {o} {i} {g} e = busyOk (H .inv) q e .kind
+
   pub process-fits : (q : ℕ) {o : Op} {i : ℕ} {g : Stage} → R .watch .lane q ≡ busy o i g → q < G .p
   process-fits q {o} {i} {g} e = busyOk (H .inv) q e .proc
 
@@ -154,6 +157,7 @@ module _ {G : Grid} (A : Lawful G) {R : Run} (H : Whole G R) where
         omega (arith, b .at .2, H .few (S .at .proc)),
       )
       by Stage.fetch e b = b .cell
+      by Stage.apply e b = b .cell
       by (marking k) e b = in-marking k e
 
   -- (d) reads the mark at the start that the process holds

@@ -1,11 +1,11 @@
 -- The count: from the account, how many words of the pool are handed out, and how many places a lane has in front.
 -- Assumes nothing.
-use mathlib.Core.Path.{_≡_, refl, sym, ap}
+use mathlib.Core.Path.{_≡_, sym, ap}
 use mathlib.Core.Logic.{_⊎_, inl, inr, ⊎-elim, _≢_}
 use Prim.Native.Nat.{ℕ, suc, _+_, _*_, _-_, _^_, _≤_, _<_}
 use native.Mathlib.Decide.{ℕ-discrete}
 use native.Mathlib.Omega.{arith}
-use Rattle.theory.specs.Base.{pick}
+use Rattle.theory.specs.Base.{pick, pick-yes, pick-no}
 use Rattle.theory.specs.Machine.{Grid, Link, mk, sameLink, Watch}
 use Rattle.theory.specs.Run.{Tally}
 use Rattle.theory.specs.Sum.{sum, sum-mono, sum-add, sum-double, sum-zero, sum-term, sum-single, double-count}
@@ -35,19 +35,11 @@ module _ {G : Grid} {oldLink : ℕ → Link} {T : Tally} {w : Watch} (A : Accoun
 
   hit-yes : (L : Link) (q k : ℕ) → L ≡ mk q k → hit L q k ≡ 1
   unfolding hit
-  hit-yes L q k h = by (sameLink L (mk q k))
-    where
-      by : (d : Dec (L ≡ mk q k)) → _≡_ {A = ℕ} (pick d 1 0) 1
-      by (yes z) = refl
-      by (no z) = absurd (z h)
+  hit-yes L q k h = pick-yes (sameLink L (mk q k)) 1 0 h
 
   hit-no : (L : Link) (q k : ℕ) → L ≢ mk q k → hit L q k ≡ 0
   unfolding hit
-  hit-no L q k h = by (sameLink L (mk q k))
-    where
-      by : (d : Dec (L ≡ mk q k)) → _≡_ {A = ℕ} (pick d 1 0) 0
-      by (yes z) = absurd (h z)
-      by (no z) = refl
+  hit-no L q k h = pick-no (sameLink L (mk q k)) 1 0 h
 
   hit-le : (L : Link) (q k : ℕ) → hit L q k ≤ 1
   unfolding hit
@@ -71,19 +63,11 @@ module _ {G : Grid} {oldLink : ℕ → Link} {T : Tally} {w : Watch} (A : Accoun
 
   ways-begun : (q k i : ℕ) → T .cells i ≡ 1 → ways q k i ≡ hit (w .mem .link i) q k + hit (oldLink i) q k
   unfolding ways
-  ways-begun q k i h = by (ℕ-discrete (T .cells i) 1)
-    where
-      by : (d : Dec (T .cells i ≡ 1)) → pick d (hit (w .mem .link i) q k + hit (oldLink i) q k) 0 ≡ hit (w .mem .link i) q k + hit (oldLink i) q k
-      by (yes z) = refl
-      by (no z) = absurd (z h)
+  ways-begun q k i h = pick-yes (ℕ-discrete (T .cells i) 1) (hit (w .mem .link i) q k + hit (oldLink i) q k) 0 h
 
   ways-idle : (q k i : ℕ) → T .cells i ≢ 1 → ways q k i ≡ 0
   unfolding ways
-  ways-idle q k i h = by (ℕ-discrete (T .cells i) 1)
-    where
-      by : (d : Dec (T .cells i ≡ 1)) → pick d (hit (w .mem .link i) q k + hit (oldLink i) q k) 0 ≡ 0
-      by (yes z) = absurd (h z)
-      by (no z) = refl
+  ways-idle q k i h = pick-no (ℕ-discrete (T .cells i) 1) (hit (w .mem .link i) q k + hit (oldLink i) q k) 0 h
 
   covered-by : (q k : ℕ) → Owed G oldLink T (w .mem) q k → 1 ≤ sum (ways q k) (G .m)
   covered-by q k h = omega (arith, sum-term (ways q k) (G .m) (h .i) (h .cell), ways-begun q k (h .i) (h .begun), one (h .which))

@@ -1,25 +1,25 @@
 -- What a step of process q leaves alone: the other lanes stay as they should.
 -- Assumes nothing.
-use mathlib.Core.Path.{_≡_, refl, _∙_, subst}
+use mathlib.Core.Path.{_≡_, refl, _∙_}
 use mathlib.Core.Logic.{_≢_}
 use Prim.Native.Nat.{ℕ, _<_}
 use native.Mathlib.Omega.{arith}
 use Rattle.theory.specs.Array.{Op}
-use Rattle.theory.specs.Machine.{Grid, Link, Seen, Marking, Stage, marking, Lane, idle, busy}
+use Rattle.theory.specs.Machine.{Grid, Seen, Marking, Stage, marking, Lane, idle, busy}
 use Rattle.theory.specs.Standing.{After}
 use Rattle.theory.specs.World.{World, Swapped}
-use Rattle.theory.specs.Claims.{Writes}
+use Rattle.theory.specs.Claims.{fresh, passing, failing, marker}
 use Rattle.theory.specs.Inv.{Judged, sure, dud, Making, Marked, MarkingOk, StageOk, LaneOk}
-use Rattle.theory.specs.ClaimsKept.{NotStored, Frame, fresh-frame, sure-frame, dud-frame, mine-frame}
+use Rattle.theory.specs.ClaimsKept.{NotStored, Frame, waits-frame, owes-frame}
 
-module _ {G : Grid} {oldLink : ℕ → Link} {q : ℕ} {W W′ : World} (F : Frame G oldLink q W W′) (r : ℕ) (ne : r ≢ q) where
+module _ {G : Grid} {oldLink : ℕ → Seen} {q : ℕ} {W W′ : World} (F : Frame G oldLink q W W′) (r : ℕ) (ne : r ≢ q) where
   -- a swapped link stays
   swapped-frame : (i : ℕ) → Swapped G oldLink W i → Swapped G oldLink W′ i
   swapped-frame i t = rw (F .link i t) t
 
   judged-frame : (o : Op) (i : ℕ) (g : Stage) (S : Seen) → After g → W .w .lane r ≡ busy o i g → Judged G oldLink W r o i S → Judged G oldLink W′ r o i S
-  judged-frame o i g S a e (sure t k s) = sure (swapped-frame i t) (F .link i t ∙ k) (sure-frame F r ne o i g a e s)
-  judged-frame o i g S a e (dud k s) = dud k (dud-frame F r ne o i g a e s)
+  judged-frame o i g S a e (sure t k s) = sure (swapped-frame i t) (F .link i t ∙ k) (owes-frame F r ne o i g e a (passing o) s)
+  judged-frame o i g S a e (dud k s) = dud k (owes-frame F r ne o i g e a (failing (G .f i) o) s)
 
   making-frame : (i : ℕ) (S : Seen) (n : ℕ) → Making G oldLink (W .w .mem) (W .used) r i S n → Making G oldLink (W′ .w .mem) (W′ .used) r i S n
   making-frame i S n h = record { bad = h .bad; low = rw (F .inForce r ne) (h .low); high = rw (F .used r ne) (h .high) }
@@ -42,18 +42,23 @@ module _ {G : Grid} {oldLink : ℕ → Link} {q : ℕ} {W W′ : World} (F : Fra
   stage-frame : (o : Op) (i : ℕ) (g : Stage) → W .w .lane r ≡ busy o i g → StageOk G oldLink W r o i g → StageOk G oldLink W′ r o i g
   unfolding NotStored
   stage-frame o i Stage.store e h = (F .fresh r o i Stage.store ne e (λ j v s. s .2) (h .0), h .1)
-  stage-frame o i Stage.checkLink e h = fresh-frame F r ne o i e h
+  stage-frame o i Stage.checkLink e h = owes-frame F r ne o i Stage.checkLink e tt (fresh o) h
   stage-frame o i (Stage.checkMarks S) e h = (judged-frame o i (Stage.checkMarks S) S tt e (h .0), h .1)
   stage-frame o i (Stage.checkDirectory S) e h = (judged-frame o i (Stage.checkDirectory S) S tt e (h .0), h .1, upto S (h .2))
   stage-frame o i (Stage.checkMark S) e h = (judged-frame o i (Stage.checkMark S) S tt e (h .0), h .1, upto S (h .2))
-  stage-frame o i Stage.fetch e h =
-      (h .0, swapped-frame i (h .1), F .fresh r o i Stage.fetch ne e (λ j v s. subst (λ x. Writes x v) (h .0) (s .0)) (h .2))
-  stage-frame o i (marking k) e h = (mine-frame F r ne o i (marking k) tt e (h .0), marking-frame i k (h .1))
+  stage-frame o i Stage.fetch e h = (h .0, swapped-frame i (h .1), waits-frame F r ne o i Stage.fetch e (h .2))
+  stage-frame o i Stage.apply e h = (h .0, swapped-frame i (h .1), waits-frame F r ne o i Stage.apply e (h .2))
+  stage-frame o i (marking k) e h = (owes-frame F r ne o i (marking k) e tt (marker o) (h .0), marking-frame i k (h .1))
 
   lane-go : (l : Lane) → W .w .lane r ≡ l → LaneOk G oldLink W r l → LaneOk G oldLink W′ r l
   lane-go idle e h = tt
-  lane-go (busy o i g) e h =
-      record { proc = h .proc; cell = h .cell; past = rw (F .since r o i g ne e) (omega (arith, h .past, F .now)); at = stage-frame o i g e (h .at) }
+  lane-go (busy o i g) e h = record {
+    proc = h .proc;
+    cell = h .cell;
+    kind = h .kind;
+    past = rw (F .since r o i g ne e) (omega (arith, h .past, F .now));
+    at = stage-frame o i g e (h .at);
+  }
 
   pub lane-frame : LaneOk G oldLink W r (W .w .lane r) → LaneOk G oldLink W′ r (W′ .w .lane r)
   lane-frame h = rw (F .lane r ne) (lane-go (W .w .lane r) refl h)

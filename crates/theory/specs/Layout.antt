@@ -32,6 +32,7 @@ module _ (G : Grid) where
   LayoutAt drawn P own q (Stage.checkDirectory S) = Unit {0}
   LayoutAt drawn P own q (Stage.checkMark S) = P .held q ≡ P .directory (S .at .proc) (G .shape .seg (S .at .place))
   LayoutAt drawn P own q Stage.fetch = Unit {0}
+  LayoutAt drawn P own q Stage.apply = Unit {0}
   LayoutAt drawn P own q (marking k) = LayoutIn drawn P own q k
 
   pub record Layout (W : World) (P : Words) (own : ℕ → Link) : Type 0 where

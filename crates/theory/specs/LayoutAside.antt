@@ -7,14 +7,14 @@ use native.Mathlib.Decide.{ℕ-discrete}
 use native.Mathlib.Omega.{arith}
 use Rattle.theory.specs.Base.{upd, upd-same, upd-other}
 use Rattle.theory.specs.Array.{Op}
-use Rattle.theory.specs.Machine.{Grid, Link, Marking, Stage, marking, busy, Mem, Next, go, end, nextLane}
+use Rattle.theory.specs.Machine.{Grid, Link, Seen, Marking, Stage, marking, busy, Mem, Next, go, end, nextLane}
 use Rattle.theory.specs.Words.{Words}
 use Rattle.theory.specs.Standing.{readyAt, ready}
 use Rattle.theory.specs.World.{World}
 use Rattle.theory.specs.Inv.{BusyOk, Inv}
 use Rattle.theory.specs.Layout.{Owns, LayoutIn, LayoutAt, Layout}
 
-module _ {G : Grid} {oldLink : ℕ → Link} {W : World} (I : Inv G oldLink W) {P : Words} {own : ℕ → Link} (Y : Layout G W P own) (q : ℕ) (o : Op) (i : ℕ) where
+module _ {G : Grid} {oldLink : ℕ → Seen} {W : World} (I : Inv G oldLink W) {P : Words} {own : ℕ → Link} (Y : Layout G W P own) (q : ℕ) (o : Op) (i : ℕ) where
   abbrev M : Mem
   M = W .w .mem
 
@@ -54,6 +54,7 @@ module _ {G : Grid} {oldLink : ℕ → Link} {W : World} (I : Inv G oldLink W) {
   beside drawn P′ own′ r B o₁ i₁ (Stage.checkMark S) k h = let b : BusyOk G oldLink W r o₁ i₁ (Stage.checkMark S) = rw k at (I .lanes r) in
       B .sameHeld ∙ h ∙ sym (B .sameStart (S .at .proc) (S .at .place) (b .at .2))
   beside drawn P′ own′ r B o₁ i₁ Stage.fetch k h = tt
+  beside drawn P′ own′ r B o₁ i₁ Stage.apply k h = tt
   beside drawn P′ own′ r B o₁ i₁ (marking m) k h = beside-marking drawn P′ own′ r B m h
 
   -- what the own next stage has to meet

@@ -7,23 +7,25 @@ use Prim.Native.Nat.{ℕ, zero, suc, _≤_, _<_}
 use native.Mathlib.Decide.{ℕ-discrete, decLt}
 use native.Mathlib.Omega.{arith}
 use Rattle.theory.specs.Base.{pick, upd, upd-same, upd-other}
-use Rattle.theory.specs.Array.{Op, read, asked, write}
+use Rattle.theory.specs.Array.{Op}
 use Rattle.theory.specs.Order.{Entry}
 use Rattle.theory.specs.Segments.{seg-first, seg-next}
-use Rattle.theory.specs.Machine.{Grid, Link, mk, Seen, Marking, Stage, marking, Lane, idle, busy, Mem, keep, setLink}
-use Rattle.theory.specs.Machine.{Next, go, end, Turn, turnTo, sameLink, wordOf, usePlace, look, fetched, passed, plan, failed, markTurn, takeTurn}
-use Rattle.theory.specs.Machine.{firstStage, nextLane, started, stepped}
+use Rattle.theory.specs.Machine.{Grid, Link, mk, Seen, Marking, Stage, marking, Lane, idle, busy, Mem, keep}
+use Rattle.theory.specs.Machine.{Next, go, end, Turn, turnTo, sameSeen, becomes, usePlace, look, fetched, passed, certify, plan, failed}
+use Rattle.theory.specs.Machine.{markTurn, takeTurn, firstStage, nextLane, started, stepped}
 use Rattle.theory.specs.Words.{Words, afterStamp, wordsMarked, wordsAfter}
 use Rattle.theory.specs.Standing.{readyAt, ready, usedNext}
 use Rattle.theory.specs.World.{World}
 use Rattle.theory.specs.Inv.{Clear, BusyOk, Inv}
 use Rattle.theory.specs.Plan
+use Rattle.theory.specs.Log.{turned}
 use Rattle.theory.specs.Steps.{busyOk}
+use Rattle.theory.specs.Swap.{certify-cases}
 use Rattle.theory.specs.Layout.{LayoutIn, LayoutAt, Layout}
 use Rattle.theory.specs.LayoutAside.{NextAt}
 use Rattle.theory.specs.LayoutSteps
 
-module _ {G : Grid} {oldLink : ℕ → Link} {W : World} (I : Inv G oldLink W) {P : Words} {own : ℕ → Link} (Y : Layout G W P own) (q : ℕ) (o : Op) (i : ℕ) where
+module _ {G : Grid} {oldLink : ℕ → Seen} {W : World} (I : Inv G oldLink W) {P : Words} {own : ℕ → Link} (Y : Layout G W P own) (q : ℕ) (o : Op) (i : ℕ) where
   abbrev M : Mem
   M = W .w .mem
 
@@ -51,16 +53,12 @@ module _ {G : Grid} {oldLink : ℕ → Link} {W : World} (I : Inv G oldLink W) {
   plan-lay P′ s S n c h =
       Plan.plan-cases (λ k. MarkLay P′ k) s q S n G M c (λ y k. (refl, y)) (λ y k. (refl, y)) (λ y. (refl, omega arith))
 
-  fail-lay : (g : Stage) → W .w .lane q ≡ busy o i g → readyAt g (M .drawn q) ≡ M .drawn q → (o₁ : Op) (S : Seen)
-      → NxLay (failed G M q o₁ i S)
-  fail-lay g e hr read S = (refl, tt)
-  fail-lay g e hr asked S = (refl, tt)
-  fail-lay g e hr (write v) S = plan-lay P false S (M .inForce q) tt (seg-le g e hr (M .inForce q) (I .counts q .1))
+  fail-lay : (g : Stage) → W .w .lane q ≡ busy o i g → readyAt g (M .drawn q) ≡ M .drawn q → (S : Seen) → NxLay (failed G M q o i S)
+  fail-lay g e hr S = Plan.failed-cases (λ nx c. NxLay nx) G M q o i S (λ nw. (refl, tt))
+      (plan-lay P false S (M .inForce q) tt (seg-le g e hr (M .inForce q) (I .counts q .1)))
 
-  pass-lay : (o₁ : Op) → NxLay (passed o₁)
-  pass-lay read = (refl, tt)
-  pass-lay asked = (refl, tt)
-  pass-lay (write v) = (refl, tt)
+  pass-lay : NxLay (passed o)
+  pass-lay = Plan.passed-cases NxLay o (λ a. (refl, tt)) (refl, tt) (refl, tt)
 
   -- the layout after a turn
   abbrev Laid : Turn → (ℕ → ℕ) → Words → List Entry → Type 0
@@ -103,43 +101,49 @@ module _ {G : Grid} {oldLink : ℕ → Link} {W : World} (I : Inv G oldLink W) {
     LayoutSteps.lay-keep I Y q o i (marking (Marking.force S n)) e (go (marking (Marking.swap S n))) (M .reading) (M .link)
         (upd (M .inForce) q (suc n)) log refl tt,
   )
-  lay-marking (Marking.swap S n) e log = by (sameLink (M .link i) (S .at))
+  lay-marking (Marking.swap S n) e log = by (sameSeen (look G M i) S)
     where
-      by : (z : Dec (M .link i ≡ S .at))
-          → Laid (pick z (turnTo (setLink i (mk q n)) (passed o)) (turnTo keep (go (marking (Marking.takeBack n))))) (W .used) P log
+      by : (z : Dec (look G M i ≡ S))
+          → Laid (pick z (turnTo (certify o i (G .f i) (mk q n)) (passed o)) (turnTo keep (go (marking (Marking.takeBack n))))) (W .used) P log
       by (yes k) = (
         own,
-        LayoutSteps.lay-keep I Y q o i (marking (Marking.swap S n)) e (passed o) (M .reading) (upd (M .link) i (mk q n)) (M .inForce)
-            log (pass-lay o .0) (pass-lay o .1),
+        certify-cases (λ x. Layout G (turned W q o i x (W .used) (passed o) log) P own) M q o i (G .f i) (mk q n)
+            (λ reading. LayoutSteps.lay-keep I Y q o i (marking (Marking.swap S n)) e (passed o) reading (upd (M .link) i (mk q n)) (M .inForce) log
+            (pass-lay .0) (pass-lay .1)),
       )
       by (no k) = lay-same (marking (Marking.swap S n)) e (go (marking (Marking.takeBack n))) refl tt log
   lay-marking (Marking.takeBack n) e log = (
     own,
     LayoutSteps.lay-keep I Y q o i (marking (Marking.takeBack n)) e (passed o) (M .reading) (M .link) (upd (M .inForce) q n)
-        log (pass-lay o .0) (pass-lay o .1),
+        log (pass-lay .0) (pass-lay .1),
   )
 
   -- the check goes on, passes or fails
   lay-test : {X : Type 0} (z : Dec X) (g : Stage) → W .w .lane q ≡ busy o i g → readyAt g (M .drawn q) ≡ M .drawn q → (nx : Next) → NxLay nx
       → (S : Seen) (log : List Entry) → Laid (turnTo keep (pick z nx (failed G M q o i S))) (W .used) P log
-  lay-test z g e hr nx hn S log = let h = nx-pick z nx (failed G M q o i S) hn (fail-lay g e hr o S) in
+  lay-test z g e hr nx hn S log = let h = nx-pick z nx (failed G M q o i S) hn (fail-lay g e hr S) in
       lay-same g e (pick z nx (failed G M q o i S)) (h .0 ∙ sym hr) (h .1) log
 
   pub lay-stage : (g : Stage) → W .w .lane q ≡ busy o i g → (log : List Entry)
       → Laid (takeTurn G M q o i g) (usedNext (W .used) q g) (wordsAfter G P q i g) log
   lay-stage Stage.store e log = (
     own,
-    LayoutSteps.lay-keep I Y q o i Stage.store e (go Stage.checkLink) (upd (M .reading) i (wordOf o)) (M .link) (M .inForce)
+    LayoutSteps.lay-keep I Y q o i Stage.store e (go Stage.checkLink) (upd (M .reading) i (becomes o (M .reading i))) (M .link) (M .inForce)
         log refl tt,
   )
-  lay-stage Stage.checkLink e log = let S = look M i in
+  lay-stage Stage.checkLink e log = let S = look G M i in
       lay-test (decLt (S .at .proc) (G .p)) Stage.checkLink e refl (go (Stage.checkMarks S)) (refl, tt) S log
   lay-stage (Stage.checkMarks S) e log =
       lay-test (decLt (S .at .place) (M .inForce (S .at .proc))) (Stage.checkMarks S) e refl (go (Stage.checkDirectory S)) (refl, tt) S log
   lay-stage (Stage.checkDirectory S) e log = (own, LayoutSteps.lay-directory I Y q o i S e log)
   lay-stage (Stage.checkMark S) e log =
-      lay-test (ℕ-discrete (M .marks (S .at .proc) (S .at .place)) (G .code i)) (Stage.checkMark S) e refl (passed o) (pass-lay o) S log
-  lay-stage Stage.fetch e log = lay-same Stage.fetch e (end (fetched M i)) refl tt log
+      lay-test (ℕ-discrete (M .marks (S .at .proc) (S .at .place)) (G .code i)) (Stage.checkMark S) e refl (passed o) pass-lay S log
+  lay-stage Stage.fetch e log = lay-same Stage.fetch e (end (fetched M o i)) refl tt log
+  lay-stage Stage.apply e log = (
+    own,
+    LayoutSteps.lay-keep I Y q o i Stage.apply e (end (fetched M o i)) (upd (M .reading) i (becomes o (M .reading i))) (M .link) (M .inForce)
+        log refl tt,
+  )
   lay-stage (marking k) e log = lay-marking k e log
 
 pub lay-begin : {G : Grid} {W : World} {P : Words} {own : ℕ → Link} → Layout G W P own → (q : ℕ) (o : Op) (i : ℕ) → W .w .lane q ≡ idle
@@ -154,21 +158,11 @@ lay-begin {G} {W} {P} {own} Y q o i free = record {
     l : Lane
     l = busy o i (firstStage o)
 
-    first-ready : (o : Op) (d : ℕ) → readyAt (firstStage o) d ≡ d
-    first-ready read d = refl
-    first-ready asked d = refl
-    first-ready (write v) d = refl
-
-    first-lay : (o : Op) → LayoutAt G (W .w .mem .drawn) P own q (firstStage o)
-    first-lay read = tt
-    first-lay asked = tt
-    first-lay (write v) = tt
-
     hs : (r : ℕ) → ready (upd (W .w .lane) q l r) (W .w .mem .drawn r) ≡ ready (W .w .lane r) (W .w .mem .drawn r)
     hs r = by (ℕ-discrete r q)
       where
         by : Dec (r ≡ q) → ready (upd (W .w .lane) q l r) (W .w .mem .drawn r) ≡ ready (W .w .lane r) (W .w .mem .drawn r)
-        by (yes h) = rw h (rw (upd-same (W .w .lane) q l, free) (first-ready o (W .w .mem .drawn q)))
+        by (yes h) = rw h (rw (upd-same (W .w .lane) q l, free) (Plan.first-cases (λ g. readyAt g (W .w .mem .drawn q) ≡ W .w .mem .drawn q) o refl refl))
         by (no h) = rw (upd-other (W .w .lane) q l r h)
 
     stages′ : (r : ℕ) (o₁ : Op) (i₁ : ℕ) (g₁ : Stage) → upd (W .w .lane) q l r ≡ busy o₁ i₁ g₁ → LayoutAt G (W .w .mem .drawn) P own r g₁
@@ -177,5 +171,6 @@ lay-begin {G} {W} {P} {own} Y q o i free = record {
         by : Dec (r ≡ q) → LayoutAt G (W .w .mem .drawn) P own r g₁
         by (yes h) = let u : busy o i (firstStage o) ≡ busy o₁ i₁ g₁ = sym (upd-same (W .w .lane) q l) ∙ ap (upd (W .w .lane) q l) (sym h) ∙ k in
             let z : firstStage o ≡ g₁ = cc in
-            subst (λ (y : ℕ). LayoutAt G (W .w .mem .drawn) P own y g₁) (sym h) (subst (λ (y : Stage). LayoutAt G (W .w .mem .drawn) P own q y) z (first-lay o))
+            subst (λ (y : ℕ). LayoutAt G (W .w .mem .drawn) P own y g₁) (sym h)
+            (subst (λ (y : Stage). LayoutAt G (W .w .mem .drawn) P own q y) z (Plan.first-cases (λ g. LayoutAt G (W .w .mem .drawn) P own q g) o tt tt))
         by (no h) = Y .stages r o₁ i₁ g₁ (sym (upd-other (W .w .lane) q l r h) ∙ k)

@@ -7,7 +7,7 @@ use mathlib.Core.List.{List}
 use Prim.Native.Nat.{ℕ, suc, _+_, _-_, _^_, _≤_, _<_, max}
 use native.Mathlib.Decide.{ℕ-discrete, decLt}
 use native.Mathlib.Omega.{arith}
-use Rattle.theory.specs.Base.{pick, upd, upd-same, upd-other}
+use Rattle.theory.specs.Base.{pick, pick-yes, pick-no, upd, upd-same, upd-other}
 use Rattle.theory.specs.Array.{Op}
 use Rattle.theory.specs.Order.{Entry}
 use Rattle.theory.specs.Machine.{Grid, Link, mk, Seen, Marking, Stage, marking, Lane, busy, Mem, setDrawn, setMark, Next, go, poke, nextLane}
@@ -20,7 +20,7 @@ use Rattle.theory.specs.Layout.{Owns, LayoutIn, Layout, same-address}
 use Rattle.theory.specs.LayoutAside
 use Rattle.theory.specs.LayoutAside.{NextAt}
 
-module _ {G : Grid} {oldLink : ℕ → Link} {W : World} (I : Inv G oldLink W) {P : Words} {own : ℕ → Link} (Y : Layout G W P own) (q : ℕ) (o : Op) (i : ℕ) where
+module _ {G : Grid} {oldLink : ℕ → Seen} {W : World} (I : Inv G oldLink W) {P : Words} {own : ℕ → Link} (Y : Layout G W P own) (q : ℕ) (o : Op) (i : ℕ) where
   abbrev M : Mem
   M = W .w .mem
 
@@ -62,18 +62,10 @@ module _ {G : Grid} {oldLink : ℕ → Link} {W : World} (I : Inv G oldLink W) {
   given own n x = pick (decLt x (P .top)) (own x) (mk q (G .shape .seg n))
 
   given-old : (n x : ℕ) → x < P .top → given own n x ≡ own x
-  given-old n x h = by (decLt x (P .top))
-    where
-      by : (d : Dec (x < P .top)) → pick d (own x) (mk q (G .shape .seg n)) ≡ own x
-      by (yes k) = refl
-      by (no k) = absurd (k h)
+  given-old n x h = pick-yes (decLt x (P .top)) (own x) (mk q (G .shape .seg n)) h
 
   given-new : (n x : ℕ) → P .top ≤ x → given own n x ≡ mk q (G .shape .seg n)
-  given-new n x h = by (decLt x (P .top))
-    where
-      by : (d : Dec (x < P .top)) → pick d (own x) (mk q (G .shape .seg n)) ≡ mk q (G .shape .seg n)
-      by (yes k) = absurd (let y : ⊥ = omega arith in y)
-      by (no k) = refl
+  given-new n x h = pick-no (decLt x (P .top)) (own x) (mk q (G .shape .seg n)) (λ k. omega arith)
 
   pub lay-draw : (s : Bool) (S : Seen) (n : ℕ) → W .w .lane q ≡ busy o i (marking (Marking.draw s S n)) → (log : List Entry)
       → Layout G (after (poke M q (setDrawn (suc (G .shape .seg n)))) (go (marking (Marking.enter s S n))) (W .used) log)

@@ -22,14 +22,17 @@ pub mod ClaimsKept
 pub mod Frame
 pub mod Calm
 pub mod Steps
--- the steps of any array: check, drawing, tombstone, mark, take-back, swap
+-- the steps of any array: check, drawing, tombstone, mark, take-back, swap, a reading set
 pub mod Check
 pub mod Mark
 pub mod Swap
--- the steps of write-then-mark: store first, all stored writes enter the order at the won swap
+pub mod Sets
+-- the steps of the first array's writes: store first, all stored writes enter the order at the won swap
 pub mod Store
 pub mod Sweep
 pub mod WriteSwap
+-- the steps of the second array's alterations: mark first, each enters the order as it is applied
+pub mod Alter
 pub mod ByStage
 pub mod Rest
 pub mod Begin

@@ -9,7 +9,7 @@ use native.Mathlib.Omega.{arith}
 use Rattle.theory.specs.Base.{upd, upd-same, upd-other}
 use Rattle.theory.specs.Array.{Op, Ans, answer}
 use Rattle.theory.specs.Order.{Done, Entry, deeds, Orderly, Is}
-use Rattle.theory.specs.Machine.{Grid, Link, Stage, idle, busy, Mem, Next, go, end, Watch, nextLane, finish}
+use Rattle.theory.specs.Machine.{Grid, Seen, Stage, idle, busy, Mem, Next, go, end, Watch, nextLane, finish}
 use Rattle.theory.specs.OrderLaws.{unique}
 use Rattle.theory.specs.World.{World}
 use Rattle.theory.specs.OneOrder.{Under}
@@ -27,7 +27,7 @@ turned W q o i M used nx log = record {
   used = used;
 }
 
-module _ (G : Grid) (oldLink : ℕ → Link) (W : World) where
+module _ (G : Grid) (oldLink : ℕ → Seen) (W : World) where
   -- an order that may take the log's place at this call
   pub record Pre (log : List Entry) : Type 0 where
     pub orderly : Orderly (G .f) log
@@ -38,7 +38,7 @@ module _ (G : Grid) (oldLink : ℕ → Link) (W : World) where
     pub apart : (q r : ℕ) (o o′ : Op) (i i′ : ℕ) (g g′ : Stage) → W .w .lane q ≡ busy o i g → W .w .lane r ≡ busy o′ i′ g′
         → W .w .since q ≡ W .w .since r → q ≡ r
 
-module _ {G : Grid} {oldLink : ℕ → Link} {W : World} where
+module _ {G : Grid} {oldLink : ℕ → Seen} {W : World} where
   pub pre-keep : Inv G oldLink W → Pre G oldLink W (W .log)
   pre-keep I = record {
     orderly = I .logs .orderly;

@@ -1,18 +1,18 @@
--- The grid's machine: what each step does, one shared word at a time, with the marks kept by lane and place.
+-- The grid's machine: what each step does, to one shared word or one cell's reading and link, with the marks kept by lane and place.
 -- Assumes nothing.
 use mathlib.Core.Path.{_≡_}
 use mathlib.Core.Logic.{_≢_}
-use mathlib.Core.Bool.{Bool, true, false}
+use mathlib.Core.Bool.{Bool, true, false, cond, Bool-discrete}
 use mathlib.Core.List.{List, [], _∷_}
 use Prim.Native.Nat.{ℕ, suc, _+_, _*_, _^_, _<_}
 use native.Mathlib.Decide.{ℕ-discrete, decLt}
 use Rattle.theory.specs.Base.{pick, upd}
-use Rattle.theory.specs.Array.{Op, read, asked, write, Ans, got, told, done}
+use Rattle.theory.specs.Array.{Op, read, asked, write, alter, acted, second, Ans, told, done, tells, reply}
 use Rattle.theory.specs.Order.{Done}
 use Rattle.theory.specs.Shape.{Shape}
 
--- what is fixed when a grid is opened: processes, cells, filling rule, the word that marks a cell, the tombstone,
--- and the segments' shape
+-- what is fixed when a grid is opened: processes, cells, filling rule, the word that marks a cell, the tombstone, the
+-- segments' shape, and which array it is: with `pair` the second, where a step may take a cell's reading and link together
 pub record Grid : Type 0 where
   pub p : ℕ
   pub m : ℕ
@@ -20,6 +20,7 @@ pub record Grid : Type 0 where
   pub code : ℕ → ℕ
   pub grave : ℕ
   pub shape : Shape
+  pub pair : Bool
 
 -- the marks in force of a lane at most, and the words of the pool
 abbrev pub mostMarks : Grid → ℕ
@@ -41,11 +42,19 @@ pub record Link : Type 0 where
 abbrev pub mk : ℕ → ℕ → Link
 mk q n = record { proc = q; place = n }
 
--- what (a) found, which an operation remembers
+-- what (a) found, which an operation remembers: the link, and in the second array the reading beside it
 pub record Seen : Type 0 where
   pub at : Link
+  pub was : ℕ
 
--- Rules 3 to 8 of a write, at a place of the own lane. `draw` and `enter` say whether the tombstone is stored already.
+-- the operations of this array
+abbrev pub Suits : Bool → Op → Type 0
+Suits pair o = pair ≡ second o
+
+abbrev pub suits? : (pair : Bool) (o : Op) → Dec (Suits pair o)
+suits? pair o = Bool-discrete pair (second o)
+
+-- Rules 3 to 8, at a place of the own lane. `draw` and `enter` say whether the tombstone is stored already.
 pub data Marking : Type 0 where
   draw : Bool → Seen → ℕ → Marking
   enter : Bool → Seen → ℕ → Marking
@@ -55,7 +64,7 @@ pub data Marking : Type 0 where
   swap : Seen → ℕ → Marking
   takeBack : ℕ → Marking
 
--- Where an operation stands. The check is (a) to (d).
+-- Where an operation stands. The check is (a) to (d). On a written cell a read has only to fetch, an alteration to be applied.
 pub data Stage : Type 0 where
   store : Stage
   checkLink : Stage
@@ -63,6 +72,7 @@ pub data Stage : Type 0 where
   checkDirectory : Seen → Stage
   checkMark : Seen → Stage
   fetch : Stage
+  apply : Stage
   marking : Marking → Stage
 
 pub data Lane : Type 0 where
@@ -77,11 +87,12 @@ pub record Mem : Type 0 where
   pub drawn : ℕ → ℕ
   pub marks : ℕ → ℕ → ℕ
 
--- the one shared word that a step changes (the last three: of the stepping process's own lane)
+-- the one shared word that a step changes, or a cell's reading and link together (the last three: of the process's own lane)
 pub data Change : Type 0 where
   keep : Change
   setReading : ℕ → ℕ → Change
   setLink : ℕ → Link → Change
+  setBoth : ℕ → ℕ → Link → Change
   setInForce : ℕ → Change
   setDrawn : ℕ → Change
   setMark : ℕ → ℕ → Change
@@ -103,6 +114,8 @@ poke M q (setReading i v) =
     record { reading = upd (M .reading) i v; link = M .link; inForce = M .inForce; drawn = M .drawn; marks = M .marks }
 poke M q (setLink i L) =
     record { reading = M .reading; link = upd (M .link) i L; inForce = M .inForce; drawn = M .drawn; marks = M .marks }
+poke M q (setBoth i v L) =
+    record { reading = upd (M .reading) i v; link = upd (M .link) i L; inForce = M .inForce; drawn = M .drawn; marks = M .marks }
 poke M q (setInForce n) =
     record { reading = M .reading; link = M .link; inForce = upd (M .inForce) q n; drawn = M .drawn; marks = M .marks }
 poke M q (setDrawn k) =
@@ -110,7 +123,7 @@ poke M q (setDrawn k) =
 poke M q (setMark n c) =
     record { reading = M .reading; link = M .link; inForce = M .inForce; drawn = M .drawn; marks = upd (M .marks) q (upd (M .marks q) n c) }
 
--- two links are the same or not
+-- two links are the same or not, and so are two that were seen
 unfoldable pub sameLink : (a b : Link) → Dec (a ≡ b)
 sameLink a b = both (ℕ-discrete (a .proc) (b .proc)) (ℕ-discrete (a .place) (b .place))
   where
@@ -119,10 +132,13 @@ sameLink a b = both (ℕ-discrete (a .proc) (b .proc)) (ℕ-discrete (a .place) 
     both (yes e) (no h) = no (λ z. h (λ i. z i .place))
     both (no e) d = no (λ z. e (λ i. z i .proc))
 
-abbrev pub wordOf : Op → ℕ
-wordOf read = 0
-wordOf asked = 0
-wordOf (write v) = v
+unfoldable pub sameSeen : (a b : Seen) → Dec (a ≡ b)
+sameSeen a b = both (sameLink (a .at) (b .at)) (ℕ-discrete (a .was) (b .was))
+  where
+    both : Dec (a .at ≡ b .at) → Dec (a .was ≡ b .was) → Dec (a ≡ b)
+    both (yes e) (yes h) = yes (λ i. record { at = e i; was = h i })
+    both (yes e) (no h) = no (λ z. h (λ i. z i .was))
+    both (no e) d = no (λ z. e (λ i. z i .at))
 
 -- 4. A drawn place: where the tombstone is not stored yet and the remembered link is exactly this place, the tombstone;
 -- else the mark.
@@ -130,30 +146,49 @@ abbrev pub usePlace : Bool → ℕ → Seen → ℕ → Marking
 usePlace true q S n = mark S n
 usePlace false q S n = pick (sameLink (S .at) (mk q n)) (tombstone S n) (mark S n)
 
--- what (a) sees of a cell
-abbrev pub look : Mem → ℕ → Seen
-look M i = record { at = M .link i }
+-- what an operation makes of its cell's reading: a write as it stores, an alteration as it is applied
+abbrev pub becomes : Op → ℕ → ℕ
+becomes (read flag) x = x
+becomes asked x = x
+becomes (write v) x = v
+becomes (alter a) x = acted a x
 
--- what a read of a written cell answers
-abbrev pub fetched : Mem → ℕ → Ans
-fetched M i = got (M .reading i) true
+-- what an operation on a written cell answers by the cell's reading
+abbrev pub fetched : Mem → Op → ℕ → Ans
+fetched M o i = reply o (M .reading i) true
 
 -- how an operation goes on once its cell is known to be written
 abbrev pub passed : Op → Next
-passed read = go fetch
+passed (read flag) = go fetch
 passed asked = end (told true)
 passed (write v) = end done
+passed (alter a) = go apply
+
+-- what a won swap sets: the link alone, or for an alteration the link and this reading
+abbrev pub certify : Op → ℕ → ℕ → Link → Change
+certify (read flag) i v L = setLink i L
+certify asked i v L = setLink i L
+certify (write x) i v L = setLink i L
+certify (alter a) i v L = setBoth i v L
 
 module _ (G : Grid) where
+  -- what (a) sees of a cell, and the swap compares: the first array does not look at the reading
+  abbrev pub sight : Link → ℕ → Seen
+  sight L x = record { at = L; was = cond (G .pair) x 0 }
+
+  abbrev pub look : Mem → ℕ → Seen
+  look M i = sight (M .link i) (M .reading i)
+
   -- 3. A place whose segment is not drawn is drawn first.
   abbrev pub plan : Bool → Mem → ℕ → Seen → ℕ → Marking
   plan s M q S n = pick (decLt (G .shape .seg n) (M .drawn q)) (usePlace s q S n) (draw s S n)
 
   -- how an operation goes on once its check has failed
   abbrev pub failed : Mem → ℕ → Op → ℕ → Seen → Next
-  failed M q read i S = end (got (G .f i) false)
+  failed M q (read flag) i S = end (tells flag (G .f i) false)
   failed M q asked i S = end (told false)
   failed M q (write v) i S = go (marking (plan false M q S (M .inForce q)))
+  failed M q (alter a) i S = go (marking (plan false M q S (M .inForce q)))
 
   -- 3 to 8, one step of process q
   abbrev pub markTurn : Mem → ℕ → Op → ℕ → Marking → Turn
@@ -163,12 +198,12 @@ module _ (G : Grid) where
   markTurn M q o i (mark S n) = turnTo (setMark n (G .code i)) (go (marking (force S n)))
   markTurn M q o i (force S n) = turnTo (setInForce (suc n)) (go (marking (swap S n)))
   markTurn M q o i (swap S n) =
-      pick (sameLink (M .link i) (S .at)) (turnTo (setLink i (mk q n)) (passed o)) (turnTo keep (go (marking (takeBack n))))
+      pick (sameSeen (look M i) S) (turnTo (certify o i (G .f i) (mk q n)) (passed o)) (turnTo keep (go (marking (takeBack n))))
   markTurn M q o i (takeBack n) = turnTo (setInForce n) (passed o)
 
   -- one step of process q at a stage of its operation on cell i
   abbrev pub takeTurn : Mem → ℕ → Op → ℕ → Stage → Turn
-  takeTurn M q o i store = turnTo (setReading i (wordOf o)) (go checkLink)
+  takeTurn M q o i store = turnTo (setReading i (becomes o (M .reading i))) (go checkLink)
   takeTurn M q o i checkLink =
       turnTo keep (pick (decLt (M .link i .proc) (G .p)) (go (checkMarks (look M i))) (failed M q o i (look M i)))
   takeTurn M q o i (checkMarks S) =
@@ -176,7 +211,8 @@ module _ (G : Grid) where
   takeTurn M q o i (checkDirectory S) = turnTo keep (go (checkMark S))
   takeTurn M q o i (checkMark S) =
       turnTo keep (pick (ℕ-discrete (M .marks (S .at .proc) (S .at .place)) (G .code i)) (passed o) (failed M q o i S))
-  takeTurn M q o i fetch = turnTo keep (end (fetched M i))
+  takeTurn M q o i fetch = turnTo keep (end (fetched M o i))
+  takeTurn M q o i apply = turnTo (setReading i (becomes o (M .reading i))) (end (fetched M o i))
   takeTurn M q o i (marking k) = markTurn M q o i k
 
 -- a run so far: the machine, how many calls were made, the call that began each lane's operation, and what has ended
@@ -188,9 +224,10 @@ pub record Watch : Type 0 where
   pub ended : List Done
 
 abbrev pub firstStage : Op → Stage
-firstStage read = checkLink
+firstStage (read flag) = checkLink
 firstStage asked = checkLink
 firstStage (write v) = store
+firstStage (alter a) = checkLink
 
 abbrev pub nextLane : Op → ℕ → Next → Lane
 nextLane o i (go g) = busy o i g

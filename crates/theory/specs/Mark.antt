@@ -8,23 +8,23 @@ use Prim.Native.Nat.{ℕ, suc, _≤_, _<_, max}
 use native.Mathlib.Decide.{ℕ-discrete}
 use native.Mathlib.Omega.{arith}
 use Rattle.theory.specs.Base.{upd, upd-same, upd-other}
-use Rattle.theory.specs.Array.{Op, read, asked, write, done}
-use Rattle.theory.specs.Machine.{Grid, Lawful, Link, mk, Seen, Marking, marking, busy, Mem, setInForce, setMark, go, end, poke, usePlace, plan}
-use Rattle.theory.specs.Standing.{settledAt}
-use Rattle.theory.specs.Order.{writtenIn}
-use Rattle.theory.specs.World.{World}
-use Rattle.theory.specs.Claims.{Wrote}
+use Rattle.theory.specs.Array.{Op, write, alter, done, Writing}
+use Rattle.theory.specs.Machine.{Grid, Lawful, mk, Seen, Marking, Stage, marking, busy, Mem, setInForce, setMark, Next, go, end, poke, usePlace, plan}
+use Rattle.theory.specs.Machine.{nextLane}
+use Rattle.theory.specs.Standing.{settledAt, settled}
+use Rattle.theory.specs.World.{World, its-link, Placed}
+use Rattle.theory.specs.Claims.{marker}
 use Rattle.theory.specs.Inv.{MarkingOk, BusyOk, Inv}
 use Rattle.theory.specs.Plan
 use Rattle.theory.specs.Plan.{Stands}
 use Rattle.theory.specs.Log.{turned}
-use Rattle.theory.specs.ClaimsKept.{mine-same}
+use Rattle.theory.specs.ClaimsKept.{owes-same}
 use Rattle.theory.specs.Calm.{Own}
 use Rattle.theory.specs.Steps
 use Rattle.theory.specs.Steps.{Kept, KeptAt}
 use Rattle.theory.specs.Check.{swapped-cell}
 
-module _ {G : Grid} {oldLink : ℕ → Link} {W : World} (I : Inv G oldLink W) (q : ℕ) (o : Op) (i : ℕ) where
+module _ {G : Grid} {oldLink : ℕ → Seen} {W : World} (I : Inv G oldLink W) (q : ℕ) (o : Op) (i : ℕ) where
   abbrev M : Mem
   M = W .w .mem
 
@@ -37,8 +37,8 @@ module _ {G : Grid} {oldLink : ℕ → Link} {W : World} (I : Inv G oldLink W) (
       → Own I q e (lanes inForce drawn marks) used (go (marking k′)) → MarkingOk G oldLink (lanes inForce drawn marks) used q i k′
       → Inv G oldLink (turned W q o i (lanes inForce drawn marks) used (go (marking k′)) (W .log))
   go-on k k′ e inForce drawn marks used O h =
-      Steps.go-calm I q e (lanes inForce drawn marks) used (W .log) (Steps.mild-keep I q e) (λ j. refl) (λ j. refl) (marking k′) O tt tt
-      (mine-same G oldLink W q i (lanes inForce drawn marks) used (go (marking k′)) o (Steps.busyOk I q e .at .0), h)
+      Steps.go-calm I q e (lanes inForce drawn marks) used (W .log) (Steps.mild-keep I q e) (λ j. refl) (λ j. refl) (marking k′) O tt (λ v w. tt)
+      (owes-same G oldLink W q o i (lanes inForce drawn marks) used (go (marking k′)) (marker o) (Steps.busyOk I q e .at .0), h)
 
   -- 3. Drawing: no cell and no mark changes.
   pub draws : (s : Bool) (S : Seen) (n : ℕ) → W .w .lane q ≡ busy o i (marking (Marking.draw s S n)) → KeptAt G oldLink W q o i (marking (Marking.draw s S n))
@@ -82,7 +82,7 @@ module _ {G : Grid} {oldLink : ℕ → Link} {W : World} (I : Inv G oldLink W) (
   -- the lane's own numbers and marks after such a store, at a place that is not in force
   own-stamp : (k : Marking) (e : W .w .lane q ≡ busy o i (marking k)) (n c : ℕ) (k′ : Marking)
       → settledAt (marking k) (M .inForce q) ≡ M .inForce q → settledAt (marking k′) (M .inForce q) ≡ M .inForce q
-      → M .inForce q ≤ n → n ≤ W .used q → ((j : ℕ) → j < G .m → c ≡ G .code j → oldLink j ≢ mk q n)
+      → M .inForce q ≤ n → n ≤ W .used q → ((j : ℕ) → j < G .m → c ≡ G .code j → oldLink j .at ≢ mk q n)
       → Own I q e (stamped n c) (raised n) (go (marking k′))
   own-stamp k e n c k′ hs hs′ low high fine = record {
     inForce = λ r ne. refl;
@@ -98,10 +98,10 @@ module _ {G : Grid} {oldLink : ℕ → Link} {W : World} (I : Inv G oldLink W) (
       below : (j : ℕ) → j < settledAt (marking k) (M .inForce q) → j < n
       below j h = omega arith
 
-      places′ : (k j : ℕ) → j < G .m → k < raised n q → stamped n c .marks q k ≡ G .code j → oldLink j ≢ mk q k
+      places′ : (k j : ℕ) → j < G .m → k < raised n q → stamped n c .marks q k ≡ G .code j → oldLink j .at ≢ mk q k
       places′ k j hj hk h = by (ℕ-discrete k n)
         where
-          by : Dec (k ≡ n) → oldLink j ≢ mk q k
+          by : Dec (k ≡ n) → oldLink j .at ≢ mk q k
           by (yes z) = rw z (fine j hj (sym (stamped-same n c) ∙ ap (λ (x : ℕ). stamped n c .marks q x) (sym z) ∙ h))
           by (no z) = I .places q k j hj (let y : k < max (W .used q) (suc n) = rw (raised-own n) at hk in omega arith) (sym (stamped-other n c k z) ∙ h)
 
@@ -140,8 +140,8 @@ module _ {G : Grid} {oldLink : ℕ → Link} {W : World} (I : Inv G oldLink W) (
       h : MarkingOk G oldLink M (W .used) q i (Marking.mark S n)
       h = Steps.busyOk I q e .at .1
 
-      fine : (j : ℕ) → j < G .m → G .code i ≡ G .code j → oldLink j ≢ mk q n
-      fine j hj k z = h .1 (h .0 .bad ∙ ap oldLink (A .inj i j (Steps.busyOk I q e .cell) hj k) ∙ z)
+      fine : (j : ℕ) → j < G .m → G .code i ≡ G .code j → oldLink j .at ≢ mk q n
+      fine j hj k z = h .1 (its-link (h .0 .bad ∙ ap oldLink (A .inj i j (Steps.busyOk I q e .cell) hj k)) ∙ z)
 
   -- 6. The marks in force.
   pub forces : (S : Seen) (n : ℕ) → W .w .lane q ≡ busy o i (marking (Marking.force S n)) → KeptAt G oldLink W q o i (marking (Marking.force S n))
@@ -168,35 +168,39 @@ module _ {G : Grid} {oldLink : ℕ → Link} {W : World} (I : Inv G oldLink W) (
       now : upd (M .inForce) q (suc n) q ≡ suc n
       now = upd-same (M .inForce) q (suc n)
 
-  -- 8. The take-back.
-  back-ends : (n : ℕ) (e : W .w .lane q ≡ busy o i (marking (Marking.takeBack n))) → Wrote G oldLink W q o i
-      → Inv G oldLink (turned W q o i (poke M q (setInForce n)) (W .used) (end done) (W .log))
-  back-ends n e x =
-      Steps.end-calm I q e (poke M q (setInForce n)) (W .used) (W .log) (Steps.mild-keep I q e) (λ j. refl) (λ j. refl) done (x .new w .0)
-      (record {
-        inForce = λ r ne. upd-other (M .inForce) q n r ne;
-        marks = λ r k ne. refl;
-        usedOther = λ r ne. refl;
-        up = omega arith;
-        rise = rw now (omega arith);
-        kept = λ k h. refl;
-        counts = rw now (omega arith, omega (arith, I .counts q .1, b .at .1 .1));
-        places = I .places q;
-      })
-      (λ v h. b .at .1 .0) (x .new w .1)
+  -- 8. The take-back: only where another has swapped. A write ends with it, an alteration has still to be applied.
+  own-back : (n : ℕ) (e : W .w .lane q ≡ busy o i (marking (Marking.takeBack n))) (nx : Next) → ((c : ℕ) → settled (nextLane o i nx) c ≡ c)
+      → Own I q e (poke M q (setInForce n)) (W .used) nx
+  own-back n e nx hs = record {
+    inForce = λ r ne. upd-other (M .inForce) q n r ne;
+    marks = λ r k ne. refl;
+    usedOther = λ r ne. refl;
+    up = omega arith;
+    rise = rw (hs, now) (omega arith);
+    kept = λ k h. refl;
+    counts = rw (hs, now) (omega arith, omega (arith, I .counts q .1, Steps.busyOk I q e .at .1 .1));
+    places = I .places q;
+  }
     where
-      b : BusyOk G oldLink W q o i (marking (Marking.takeBack n))
-      b = Steps.busyOk I q e
-
       now : upd (M .inForce) q n q ≡ n
       now = upd-same (M .inForce) q n
 
-      w : writtenIn (W .log) i ≡ true
-      w = swapped-cell I i (b .cell) (b .at .1 .0) .is-written
+module _ {G : Grid} {oldLink : ℕ → Seen} {W : World} (I : Inv G oldLink W) (q i n : ℕ) where
+  pub takes-back : (o : Op) → Writing o → W .w .lane q ≡ busy o i (marking (Marking.takeBack n)) → KeptAt G oldLink W q o i (marking (Marking.takeBack n))
+  unfolding Kept
+  takes-back (write v) w e = (
+    [],
+    Steps.end-calm I q e (poke (W .w .mem) q (setInForce n)) (W .used) (W .log) (Steps.mild-keep I q e) (λ j. refl) (λ j. refl) done (placed .0)
+        (own-back I q (write v) i n e (end done) (λ c. refl)) tt (λ v w. b .at .1 .0) (placed .1),
+  )
+    where
+      b : BusyOk G oldLink W q (write v) i (marking (Marking.takeBack n))
+      b = Steps.busyOk I q e
 
-pub takes-back : {G : Grid} {oldLink : ℕ → Link} {W : World} (I : Inv G oldLink W) (q : ℕ) (o : Op) (i : ℕ) (n : ℕ)
-    → W .w .lane q ≡ busy o i (marking (Marking.takeBack n)) → KeptAt G oldLink W q o i (marking (Marking.takeBack n))
-unfolding Kept
-takes-back I q read i n e = absurd (Steps.busyOk I q e .at .0)
-takes-back I q asked i n e = absurd (Steps.busyOk I q e .at .0)
-takes-back I q (write v) i n e = ([], back-ends I q (write v) i n e (Steps.busyOk I q e .at .0))
+      placed : Placed G oldLink W q (write v) i done
+      placed = b .at .0 .new (swapped-cell I i (b .cell) (b .at .1 .0) .is-written (b .kind))
+  takes-back (alter a) w e = let b = Steps.busyOk I q e in (
+    [],
+    Steps.go-calm I q e (poke (W .w .mem) q (setInForce n)) (W .used) (W .log) (Steps.mild-keep I q e) (λ j. refl) (λ j. refl) Stage.apply
+        (own-back I q (alter a) i n e (go Stage.apply) (λ c. refl)) tt (λ v w. w) ((a, refl), b .at .1 .0, b .at .0),
+  )

@@ -1,8 +1,8 @@
--- One order of a run: all ended operations and some writes under way, and nothing else.
+-- One order of a run: all ended operations and some under way that count as writes, and nothing else.
 -- Assumes nothing.
 use mathlib.Core.Path.{_≡_}
 use Prim.Native.Nat.{ℕ}
-use Rattle.theory.specs.Array.{write}
+use Rattle.theory.specs.Array.{Writing}
 use Rattle.theory.specs.Order.{Entry, OrderOf}
 use Rattle.theory.specs.Machine.{Stage, busy, Watch}
 
@@ -12,12 +12,11 @@ pub record Under (w : Watch) (e : Entry) : Type 0 where
   pub lane : w .lane (e .who) ≡ busy (e .op) (e .cell) stage
   pub since : w .since (e .who) ≡ e .began
 
--- the entry is a write under way
+-- the entry is an operation under way that counts as a write
 pub record Pending (w : Watch) (e : Entry) : Type 0 where
   pub under : Under w e
-  pub value : ℕ
-  pub writes : e .op ≡ write value
+  pub writes : Writing (e .op)
 
--- one order of all ended operations and some writes under way
+-- one order of all ended operations and some such operations under way
 abbrev pub OneOrder : (ℕ → ℕ) → Watch → Type 0
 OneOrder f w = OrderOf f (w .ended) (Pending w)

@@ -7,8 +7,8 @@ use mathlib.Core.List.{List, [], _∷_, _++_, append-assoc, List·Memᴰ, List·
 use Prim.Native.Nat.{ℕ, _<_}
 use native.Mathlib.Decide.{ℕ-discrete}
 use native.Mathlib.Omega.{arith}
-use Rattle.theory.specs.Base.{pick}
-use Rattle.theory.specs.Array.{Op, read, asked, write, got, valueBy, writtenBy, value, written, answer}
+use Rattle.theory.specs.Base.{pick, pick-yes, pick-no}
+use Rattle.theory.specs.Array.{Op, read, asked, write, alter, Act, acted, second, Writing, valueBy, writtenBy, value, written, reply, answer}
 use Rattle.theory.specs.Order.{Done, Entry, deeds, Orderly, Is, OrderOf, Grown, valueIn, writtenIn}
 
 pub no-false : {A : Type 0} → true ≡ false → A
@@ -20,18 +20,24 @@ at-cell v x y b ih (yes k) z = no-false z
 at-cell v x y b ih (no k) z = ih z
 
 unwritten-by : (o : Op) (c i x y : ℕ) (b : Bool) → (b ≡ false → x ≡ y) → writtenBy o c i b ≡ false → valueBy o c i x ≡ y
-unwritten-by read c i x y b ih h = ih h
+unwritten-by (read flag) c i x y b ih h = ih h
 unwritten-by asked c i x y b ih h = ih h
 unwritten-by (write v) c i x y b ih h = at-cell v x y b ih (ℕ-discrete c i) h
+unwritten-by (alter a) c i x y b ih h = at-cell (acted a x) x y b ih (ℕ-discrete c i) h
 
 pub value-unwritten : (f : ℕ → ℕ) (es : List Entry) (i : ℕ) → writtenIn es i ≡ false → valueIn f es i ≡ f i
 unfolding value written deeds
 value-unwritten f [] i h = refl
 value-unwritten f (e ∷ es) i h = unwritten-by (e .op) (e .cell) i (valueIn f es i) (f i) (writtenIn es i) (value-unwritten f es i) h
 
--- a read answers what the cell holds and whether it is written
-pub read-answers : (f : ℕ → ℕ) (es : List Entry) (i v : ℕ) (b : Bool) → valueIn f es i ≡ v → writtenIn es i ≡ b → got v b ≡ answer f (deeds es) read i
-read-answers f es i v b e h = ap (λ (x : ℕ). got x b) (sym e) ∙ ap (λ (x : Bool). got (valueIn f es i) x) (sym h)
+-- the array answers by what the cell holds, and in the first array by whether it is written
+pub answers : (f : ℕ → ℕ) (es : List Entry) (o : Op) (i v : ℕ) (w : Bool) → valueIn f es i ≡ v → (second o ≡ false → writtenIn es i ≡ w)
+    → reply o v w ≡ answer f (deeds es) o i
+answers f es (read true) i v w e h = λ z. reply (read true) (sym e z) (sym (h refl) z)
+answers f es (read false) i v w e h = ap (λ (x : ℕ). reply (read false) x w) (sym e)
+answers f es asked i v w e h = ap (reply asked v) (sym (h refl))
+answers f es (write x) i v w e h = refl
+answers f es (alter a) i v w e h = ap (λ (x : ℕ). reply (alter a) x w) (sym e)
 
 -- an operation stands once
 pub unique : (f : ℕ → ℕ) (es : List Entry) → Orderly f es → (d e : Entry) → List·Memᴰ d es → List·Memᴰ e es → d .began ≡ e .began → d ≡ e
@@ -72,41 +78,53 @@ grown-on {a} g h = record {
 pub grown-keeps : {a b : List Entry} → Grown a b → (e : Entry) → List·Memᴰ e a → List·Memᴰ e b
 grown-keeps g e m = subst (List·Memᴰ e) (sym (g .split)) (Memᴰ·append-right (g .newer) m)
 
--- the array after one more write
-pub value-here : (f : ℕ → ℕ) (x : Entry) (es : List Entry) (v i : ℕ) → x .op ≡ write v → x .cell ≡ i → valueIn f (x ∷ es) i ≡ v
+-- an operation counts as a write, or changes nothing
+pub writing? : (o : Op) → Writing o ⊎ (Writing o → ⊥)
+writing? (read flag) = inr (λ w. w)
+writing? asked = inr (λ w. w)
+writing? (write v) = inl tt
+writing? (alter a) = inl tt
+
+looks-by : (o : Op) (c j x : ℕ) (b : Bool) → (Writing o → ⊥) → (valueBy o c j x ≡ x) × (writtenBy o c j b ≡ b)
+looks-by (read flag) c j x b nw = (refl, refl)
+looks-by asked c j x b nw = (refl, refl)
+looks-by (write v) c j x b nw = absurd (nw tt)
+looks-by (alter a) c j x b nw = absurd (nw tt)
+
+pub looks-on : (f : ℕ → ℕ) (x : Entry) (es : List Entry) (j : ℕ) → (Writing (x .op) → ⊥)
+    → (valueIn f (x ∷ es) j ≡ valueIn f es j) × (writtenIn (x ∷ es) j ≡ writtenIn es j)
+unfolding value written deeds
+looks-on f x es j nw = looks-by (x .op) (x .cell) j (valueIn f es j) (writtenIn es j) nw
+
+-- the array after one more operation that counts as a write, on its cell
+pub value-written : (f : ℕ → ℕ) (x : Entry) (es : List Entry) (v i : ℕ) → x .op ≡ write v → x .cell ≡ i → valueIn f (x ∷ es) i ≡ v
 unfolding value deeds
-value-here f x es v i ho hc = rw (ho, hc) (by (ℕ-discrete i i))
-  where
-    by : (d : Dec (i ≡ i)) → pick d v (valueIn f es i) ≡ v
-    by (yes k) = refl
-    by (no k) = absurd (k refl)
+value-written f x es v i ho hc = rw (ho, hc) (pick-yes (ℕ-discrete i i) v (valueIn f es i) refl)
 
-pub written-here : (x : Entry) (es : List Entry) (v i : ℕ) → x .op ≡ write v → x .cell ≡ i → writtenIn (x ∷ es) i ≡ true
+pub value-altered : (f : ℕ → ℕ) (x : Entry) (es : List Entry) (a : Act) (i : ℕ) → x .op ≡ alter a → x .cell ≡ i
+    → valueIn f (x ∷ es) i ≡ acted a (valueIn f es i)
+unfolding value deeds
+value-altered f x es a i ho hc = rw (ho, hc) (pick-yes (ℕ-discrete i i) (acted a (valueIn f es i)) (valueIn f es i) refl)
+
+writes-by : (o : Op) (c i : ℕ) (b : Bool) → Writing o → c ≡ i → writtenBy o c i b ≡ true
+writes-by (write v) c i b w h = pick-yes (ℕ-discrete c i) true b h
+writes-by (alter a) c i b w h = pick-yes (ℕ-discrete c i) true b h
+
+pub written-here : (x : Entry) (es : List Entry) (i : ℕ) → Writing (x .op) → x .cell ≡ i → writtenIn (x ∷ es) i ≡ true
 unfolding written deeds
-written-here x es v i ho hc = rw (ho, hc) (by (ℕ-discrete i i))
-  where
-    by : (d : Dec (i ≡ i)) → pick d true (writtenIn es i) ≡ true
-    by (yes k) = refl
-    by (no k) = absurd (k refl)
+written-here x es i w h = writes-by (x .op) (x .cell) i (writtenIn es i) w h
 
-aside : {X : Type 0} {c j : ℕ} (x y : X) → j ≢ c → (d : Dec (c ≡ j)) → pick d x y ≡ y
-aside x y ne (yes k) = absurd (ne (sym k))
-aside x y ne (no k) = refl
-
-away-value : (o : Op) (c j y : ℕ) → j ≢ c → valueBy o c j y ≡ y
-away-value read c j y ne = refl
-away-value asked c j y ne = refl
-away-value (write v) c j y ne = aside v y ne (ℕ-discrete c j)
-
-away-written : (o : Op) (c j : ℕ) (y : Bool) → j ≢ c → writtenBy o c j y ≡ y
-away-written read c j y ne = refl
-away-written asked c j y ne = refl
-away-written (write v) c j y ne = aside true y ne (ℕ-discrete c j)
+-- and on another cell
+away-by : (o : Op) (c j x : ℕ) (b : Bool) → j ≢ c → (valueBy o c j x ≡ x) × (writtenBy o c j b ≡ b)
+away-by (read flag) c j x b ne = (refl, refl)
+away-by asked c j x b ne = (refl, refl)
+away-by (write v) c j x b ne = (pick-no (ℕ-discrete c j) v x (λ h. ne (sym h)), pick-no (ℕ-discrete c j) true b (λ h. ne (sym h)))
+away-by (alter a) c j x b ne = (pick-no (ℕ-discrete c j) (acted a x) x (λ h. ne (sym h)), pick-no (ℕ-discrete c j) true b (λ h. ne (sym h)))
 
 pub value-away : (f : ℕ → ℕ) (x : Entry) (es : List Entry) (j : ℕ) → j ≢ x .cell → valueIn f (x ∷ es) j ≡ valueIn f es j
 unfolding value deeds
-value-away f x es j ne = away-value (x .op) (x .cell) j (valueIn f es j) ne
+value-away f x es j ne = away-by (x .op) (x .cell) j (valueIn f es j) true ne .0
 
 pub written-away : (x : Entry) (es : List Entry) (j : ℕ) → j ≢ x .cell → writtenIn (x ∷ es) j ≡ writtenIn es j
 unfolding written deeds
-written-away x es j ne = away-written (x .op) (x .cell) j (writtenIn es j) ne
+written-away x es j ne = away-by (x .op) (x .cell) j 0 (writtenIn es j) ne .1

@@ -7,7 +7,7 @@ use mathlib.Core.List.{List, [], _∷_, List·Memᴰ, List·Memᴰ·head, List·
 use Prim.Native.Nat.{ℕ, _≤_}
 use native.Mathlib.Decide.{ℕ-discrete}
 use Rattle.theory.specs.Base.{pick}
-use Rattle.theory.specs.Array.{Op, read, asked, write, told, valueBy, writtenBy, value, written, answer}
+use Rattle.theory.specs.Array.{Op, read, asked, write, alter, acted, valueBy, writtenBy, value, written, reply, answer}
 use Rattle.theory.specs.Order.{Entry, Done, deeds, Orderly, Is, valueIn, writtenIn}
 use Rattle.theory.specs.OrderLaws.{value-away, written-away, no-false}
 
@@ -84,14 +84,16 @@ module _ (here : ℕ → Bool) (name : ℕ → ℕ) (apart : (i j : ℕ) → her
       by (no a) (no b) = refl
 
   value-same : (o : Op) (c j x y : ℕ) → here c ≡ true → here j ≡ true → x ≡ y → valueBy o (name c) (name j) x ≡ valueBy o c j y
-  value-same read c j x y hc hj e = e
+  value-same (read flag) c j x y hc hj e = e
   value-same asked c j x y hc hj e = e
   value-same (write v) c j x y hc hj e = pick-same c j v x hc hj ∙ ap (λ (u : ℕ). pick (ℕ-discrete c j) v u) e
+  value-same (alter a) c j x y hc hj e = pick-same c j (acted a x) x hc hj ∙ ap (λ (u : ℕ). pick (ℕ-discrete c j) (acted a u) u) e
 
   written-same : (o : Op) (c j : ℕ) (x y : Bool) → here c ≡ true → here j ≡ true → x ≡ y → writtenBy o (name c) (name j) x ≡ writtenBy o c j y
-  written-same read c j x y hc hj e = e
+  written-same (read flag) c j x y hc hj e = e
   written-same asked c j x y hc hj e = e
   written-same (write v) c j x y hc hj e = pick-same c j true x hc hj ∙ ap (λ (u : Bool). pick (ℕ-discrete c j) true u) e
+  written-same (alter a) c j x y hc hj e = pick-same c j true x hc hj ∙ ap (λ (u : Bool). pick (ℕ-discrete c j) true u) e
 
   -- the whole is filled as the part is, by name
   abbrev whole : ℕ → ℕ
@@ -115,9 +117,7 @@ module _ (here : ℕ → Bool) (name : ℕ → ℕ) (apart : (i j : ℕ) → her
           ne y = no-false (sym h ∙ ap here y ∙ k)
 
   same-answer : (es : List Entry) (o : Op) (j : ℕ) → here j ≡ true → answer whole (deeds es) o j ≡ answer f (deeds (partOf here name es)) o (name j)
-  same-answer es read j h = rw (same-there es j h .0, same-there es j h .1)
-  same-answer es asked j h = ap told (sym (same-there es j h .1))
-  same-answer es (write v) j h = refl
+  same-answer es o j h = λ z. reply o (sym (same-there es j h .0) z) (sym (same-there es j h .1) z)
 
   -- an order of the whole gives an order of the part
   pub part-orderly : (es : List Entry) → Orderly whole es → Orderly f (partOf here name es)

@@ -7,15 +7,15 @@ use Prim.Native.Nat.{ℕ, suc, _≤_}
 use native.Mathlib.Omega.{arith}
 use Rattle.theory.specs.Array.{Op}
 use Rattle.theory.specs.Order.{Done, Entry, Is}
-use Rattle.theory.specs.Machine.{Grid, Link, Stage, busy}
-use Rattle.theory.specs.World.{World}
+use Rattle.theory.specs.Machine.{Grid, Seen, Stage, busy}
+use Rattle.theory.specs.World.{World, known-while}
 use Rattle.theory.specs.OneOrder.{Under}
 use Rattle.theory.specs.Inv.{CellOk, old, new, Inv}
 use Rattle.theory.specs.ClaimsKept.{Frame}
 use Rattle.theory.specs.Frame.{lane-frame}
 
 -- later, with the beginnings of the operations under way as they were
-module _ {G : Grid} {oldLink : ℕ → Link} {W : World} (I : Inv G oldLink W) (now : ℕ) (since : ℕ → ℕ) (late : W .w .now ≤ now)
+module _ {G : Grid} {oldLink : ℕ → Seen} {W : World} (I : Inv G oldLink W) (now : ℕ) (since : ℕ → ℕ) (late : W .w .now ≤ now)
     (same : (r : ℕ) (o : Op) (i : ℕ) (g : Stage) → W .w .lane r ≡ busy o i g → since r ≡ W .w .since r) where
   abbrev pub later : World
   later = record { w = record { mem = W .w .mem; lane = W .w .lane; now = now; since = since; ended = W .w .ended }; log = W .log; used = W .used }
@@ -59,7 +59,7 @@ module _ {G : Grid} {oldLink : ℕ → Link} {W : World} (I : Inv G oldLink W) (
     where
       cell : {j : ℕ} → CellOk G oldLink W j → CellOk G oldLink later j
       cell (old t k s) = old t k s
-      cell (new t y v p₀ p₁ p₂) = new t y v p₀ p₁ p₂
+      cell {j} (new t y v p₀ p₁ p₂) = new t (known-while W later j refl (λ d. refl) y) v p₀ p₁ p₂
 
       under : (z : Entry) → Under (W .w) z → Under (later .w) z
       under z u = record { stage = u .stage; lane = u .lane; since = same (z .who) (z .op) (z .cell) (u .stage) (u .lane) ∙ u .since }

@@ -4,19 +4,20 @@ use mathlib.Core.List.{List, [], _∷_}
 use Prim.Native.Nat.{ℕ, suc}
 use native.Mathlib.Decide.{decLt}
 use Rattle.theory.specs.Base.{pick, upd}
-use Rattle.theory.specs.Array.{Op, read, asked, write}
-use Rattle.theory.specs.Machine.{Grid, Link, Stage, Lane, idle, busy, takeTurn, Watch, pass, started, stepped, opened}
+use Rattle.theory.specs.Array.{Op, read, asked, write, alter}
+use Rattle.theory.specs.Machine.{Grid, Link, suits?, Stage, Lane, idle, busy, takeTurn, Watch, pass, started, stepped, opened}
 use Rattle.theory.specs.Words.{Words, wordsAfter}
 
--- whether a write of the cell has begun, and whether the process has begun one: 1 or 0
+-- whether an operation on the cell that counts as a write has begun, and whether the process has begun one: 1 or 0
 pub record Tally : Type 0 where
   pub cells : ℕ → ℕ
   pub procs : ℕ → ℕ
 
 abbrev pub tallied : Tally → ℕ → Op → ℕ → Tally
-tallied T q read i = T
+tallied T q (read flag) i = T
 tallied T q asked i = T
 tallied T q (write v) i = record { cells = upd (T .cells) i 1; procs = upd (T .procs) q 1 }
+tallied T q (alter a) i = record { cells = upd (T .cells) i 1; procs = upd (T .procs) q 1 }
 
 pub data Call : Type 0 where
   begin : ℕ → Op → ℕ → Call
@@ -46,7 +47,8 @@ stepRun G R q o i g = record {
 
 module _ (G : Grid) (R : Run) where
   abbrev pub callBegin : ℕ → Op → ℕ → Lane → Run
-  callBegin q o i idle = pick (decLt q (G .p)) (pick (decLt i (G .m)) (beginRun R q o i) (passRun R)) (passRun R)
+  callBegin q o i idle =
+      pick (decLt q (G .p)) (pick (decLt i (G .m)) (pick (suits? (G .pair) o) (beginRun R q o i) (passRun R)) (passRun R)) (passRun R)
   callBegin q o i (busy o′ i′ g) = passRun R
 
   abbrev pub callStep : ℕ → Lane → Run

@@ -4,7 +4,7 @@ use Prim.Native.Nat.{ℕ, suc, _-_, max}
 use Rattle.theory.specs.Base.{upd}
 use Rattle.theory.specs.Machine.{Marking, Stage, marking, Lane, idle, busy}
 
--- a write has stored its reading
+-- where a write may stand that has stored its reading
 abbrev pub After : Stage → Type 0
 After Stage.store = ⊥
 After Stage.checkLink = Unit {0}
@@ -12,6 +12,7 @@ After (Stage.checkMarks S) = Unit {0}
 After (Stage.checkDirectory S) = Unit {0}
 After (Stage.checkMark S) = Unit {0}
 After Stage.fetch = Unit {0}
+After Stage.apply = ⊥
 After (marking k) = Unit {0}
 
 -- at no place; at place n before its mark is stored, its segment drawn and not yet entered, storing it, and with the
@@ -39,6 +40,7 @@ standingAt (Stage.checkMarks S) = nowhere
 standingAt (Stage.checkDirectory S) = nowhere
 standingAt (Stage.checkMark S) = nowhere
 standingAt Stage.fetch = nowhere
+standingAt Stage.apply = nowhere
 standingAt (marking k) = standingIn k
 
 -- of c marks in force, those that no take-back can touch

@@ -1,125 +1,99 @@
 -- The store, the first step of a write: on a swapped cell the write takes its place at once, else it waits for the swap.
 -- Assumes nothing.
 use mathlib.Core.Path.{_≡_, refl, sym, _∙_}
-use mathlib.Core.Logic.{inl, _≢_}
-use mathlib.Core.List.{List, [], _∷_, List·Memᴰ·head, List·Memᴰ·tail}
+use mathlib.Core.Logic.{inl}
+use mathlib.Core.Bool.{Bool, false, cond}
+use mathlib.Core.List.{[], _∷_, List·Memᴰ·head}
 use Prim.Native.Nat.{ℕ, _<_}
 use native.Mathlib.Decide.{ℕ-discrete}
 use native.Mathlib.Omega.{arith}
 use Rattle.theory.specs.Base.{upd-same, upd-other}
-use Rattle.theory.specs.Array.{Op, read, asked, write, done}
-use Rattle.theory.specs.Order.{Entry, valueIn, writtenIn}
-use Rattle.theory.specs.Machine.{Grid, Link, Stage, busy, Mem, setReading, go, turnTo, poke, takeTurn}
+use Rattle.theory.specs.Array.{Op, write, done}
+use Rattle.theory.specs.Order.{Entry, writtenIn}
+use Rattle.theory.specs.Machine.{Grid, Seen, Stage, busy, Mem, setReading, go, poke, look}
 use Rattle.theory.specs.OrderLaws
-use Rattle.theory.specs.World.{World}
+use Rattle.theory.specs.World.{World, Swapped}
+use Rattle.theory.specs.Claims.{Writes, Stored}
 use Rattle.theory.specs.Inv.{BusyOk, CellOk, old, new, Inv}
 use Rattle.theory.specs.Log
 use Rattle.theory.specs.Calm
 use Rattle.theory.specs.Calm.{Own}
 use Rattle.theory.specs.Steps
-use Rattle.theory.specs.Steps.{Kept}
+use Rattle.theory.specs.Steps.{Kept, KeptAt}
+use Rattle.theory.specs.Sets.{sets}
 
-module _ {G : Grid} {oldLink : ℕ → Link} {W : World} (I : Inv G oldLink W) (q : ℕ) where
-  pub stores : (o : Op) (i : ℕ) (e : W .w .lane q ≡ busy o i Stage.store) → Kept G oldLink W q o i (takeTurn G (W .w .mem) q o i Stage.store) (W .used)
-  unfolding Kept
-  stores read i e = absurd (Steps.busyOk I q e .at .1 .1)
-  stores asked i e = absurd (Steps.busyOk I q e .at .1 .1)
-  stores (write v) i e = by (I .cells i (b .cell))
-    where
-      b : BusyOk G oldLink W q (write v) i Stage.store
-      b = Steps.busyOk I q e
+-- the first array sees no reading
+blind : (pair : Bool) → pair ≡ false → (x y : ℕ) → cond pair x 0 ≡ cond pair y 0
+blind pair h x y = rw h
 
-      M : Mem
-      M = poke (W .w .mem) q (setReading i v)
+module _ {G : Grid} {oldLink : ℕ → Seen} {W : World} (I : Inv G oldLink W) (q v i : ℕ) (e : W .w .lane q ≡ busy (write v) i Stage.store) where
+  b : BusyOk G oldLink W q (write v) i Stage.store
+  b = Steps.busyOk I q e
 
-      O : Own I q e M (W .used) (go Stage.checkLink)
-      O = Steps.own-same I q e M (λ r. refl) (λ r n. refl) (go Stage.checkLink) refl
+  abbrev M : Mem
+  M = poke (W .w .mem) q (setReading i v)
 
-      x : Entry
-      x = Log.entry (W .w) q (write v) i done
+  -- an unswapped cell: the order stays, and the reading is one that a write has stored
+  module _ (unwritten : writtenIn (W .log) i ≡ false) (seen : look G (W .w .mem) i ≡ oldLink i) where
+    abbrev W′ : World
+    W′ = Log.turned W q (write v) i M (W .used) (go Stage.checkLink) (W .log)
 
-      here : M .reading i ≡ v
-      here = upd-same (W .w .mem .reading) i v
+    O : Own I q e M (W .used) (go Stage.checkLink)
+    O = Steps.own-same I q e M (λ r. refl) (λ r n. refl) (go Stage.checkLink) refl
 
-      -- the other cells
-      beside : (log : List Entry) → ((j : ℕ) → j ≢ i → writtenIn log j ≡ writtenIn (W .log) j)
-          → ((j : ℕ) → j ≢ i → valueIn (G .f) log j ≡ valueIn (G .f) (W .log) j)
-          → (j : ℕ) → j < G .m → j ≢ i → CellOk G oldLink (Log.turned W q (write v) i M (W .used) (go Stage.checkLink) log) j
-      beside log hs hv j hj ne = Calm.still-cell I q e M (W .used) (go Stage.checkLink) log O j
-          (record {
-            same = hs j ne;
-            vals = hv j ne;
-            link = refl;
-            reading = upd-other (W .w .mem .reading) i v j ne;
-            hold = λ v t s. absurd (s .2);
-            from = λ v s. absurd (ne (sym (s .1)));
-          })
-          hj
+    stored : Stored (W′ .w .lane q) i (M .reading i)
+    stored = rw (upd-same (W .w .lane) q (busy (write v) i Stage.checkLink)) (sym (upd-same (W .w .mem .reading) i v), refl, tt)
 
-      by : CellOk G oldLink W i → Kept G oldLink W q (write v) i (turnTo (setReading i v) (go Stage.checkLink)) (W .used)
-      by (old t k s) = (
-        [],
-        Calm.complete-inv I q e M (W .used) (go Stage.checkLink) (W .log) O
-            (Calm.quiet-frame I q e M (W .used) (go Stage.checkLink) (W .log) O
-            (record { more = λ z m. m; less = λ z m. inl m; same = λ j. refl; link = λ j t. refl }))
+    same-seen : look G M i ≡ look G (W .w .mem) i
+    unfolding b
+    same-seen z = record { at = W .w .mem .link i; was = blind (G .pair) (b .kind) (M .reading i) (W .w .mem .reading i) z }
+
+    cells′ : (j : ℕ) → j < G .m → CellOk G oldLink W′ j
+    cells′ j hj = by (ℕ-discrete j i)
+      where
+        by : Dec (j ≡ i) → CellOk G oldLink W′ j
+        by (yes z) = rw z (old unwritten (same-seen ∙ seen) (λ r y h. (q, stored)))
+        by (no z) = Calm.still-cell I q e M (W .used) (go Stage.checkLink) (W .log) O j
             (record {
-              proc = b .proc;
-              cell = b .cell;
-              past = omega (arith, b .past);
-              at = record { v = v; is = refl; new = λ t₁. OrderLaws.no-false (sym t₁ ∙ t); old = λ t₁. b .at .0 };
+              same = refl;
+              vals = refl;
+              link = refl;
+              reading = upd-other (W .w .mem .reading) i v j z;
+              hold = λ y u s. absurd (s .2);
+              from = λ y s. absurd (z (sym (s .1)));
+              undue = λ a h. let y : _≡_ {A = ℕ} 0 1 = cc in omega arith;
             })
-            cells′
-            (Log.log-go q e M (W .used) (Log.pre-keep I) Stage.checkLink),
-      )
-        where
-          W′ : World
-          W′ = Log.turned W q (write v) i M (W .used) (go Stage.checkLink) (W .log)
+            hj
 
-          mine : W′ .w .lane q ≡ busy (write v) i Stage.checkLink
-          mine = upd-same (W .w .lane) q (busy (write v) i Stage.checkLink)
+    store-waits : Inv G oldLink W′
+    unfolding b
+    store-waits = Calm.complete-inv I q e M (W .used) (go Stage.checkLink) (W .log) O
+        (Calm.quiet-frame I q e M (W .used) (go Stage.checkLink) (W .log) O
+        (record { more = λ z m. m; less = λ z m. inl m; same = λ h j. refl; link = λ j t. refl }))
+        (Steps.goes-on I q e M (W .used) (W .log) Stage.checkLink
+        (record { v = v; is = refl; new = λ h. OrderLaws.no-false (sym h ∙ unwritten); old = λ h. b .at .0 }))
+        cells′ (Log.log-go q e M (W .used) (Log.pre-keep I) Stage.checkLink)
 
-          cells′ : (j : ℕ) → j < G .m → CellOk G oldLink W′ j
-          cells′ j hj = at-j (ℕ-discrete j i)
-            where
-              at-j : Dec (j ≡ i) → CellOk G oldLink W′ j
-              at-j (yes z) = rw z (old t k (λ r y h. (q, rw mine (sym here, refl, tt))))
-              at-j (no z) = beside (W .log) (λ j ne. refl) (λ j ne. refl) j hj z
-      by (new t w y p₀ p₁ p₂) = (
-        x ∷ [],
-        Calm.complete-inv I q e M (W .used) (go Stage.checkLink) (x ∷ W .log) O
-            (Calm.quiet-frame I q e M (W .used) (go Stage.checkLink) (x ∷ W .log) O
-            (record { more = λ z m. List·Memᴰ·tail m; less = Steps.less-cons I q e x refl; same = same′; link = λ j t. refl }))
-            (record {
-              proc = b .proc;
-              cell = b .cell;
-              past = omega (arith, b .past);
-              at = record {
-                v = v;
-                is = refl;
-                new = λ t₁. (W .w .now, List·Memᴰ·head refl);
-                old = λ t₁. OrderLaws.no-false (sym (OrderLaws.written-here x (W .log) v i refl refl) ∙ t₁);
-              };
-            })
-            cells′
-            (Log.log-go q e M (W .used) (Log.pre-place (Log.pre-keep I) q done e (b .past) (b .at .0) refl) Stage.checkLink),
-      )
-        where
-          W′ : World
-          W′ = Log.turned W q (write v) i M (W .used) (go Stage.checkLink) (x ∷ W .log)
+  abbrev x : Entry
+  x = Log.entry (W .w) q (write v) i done
 
-          same′ : (j : ℕ) → writtenIn (x ∷ W .log) j ≡ writtenIn (W .log) j
-          same′ j = at-j (ℕ-discrete j i)
-            where
-              at-j : Dec (j ≡ i) → writtenIn (x ∷ W .log) j ≡ writtenIn (W .log) j
-              at-j (yes z) = rw z (OrderLaws.written-here x (W .log) v i refl refl ∙ sym w)
-              at-j (no z) = OrderLaws.written-away x (W .log) j z
+  store-placed : Swapped G oldLink W i → Inv G oldLink (Log.turned W q (write v) i M (W .used) (go Stage.checkLink) (x ∷ W .log))
+  unfolding b
+  store-placed t = sets I q e v done (go Stage.checkLink) t tt refl (OrderLaws.value-written (G .f) x (W .log) v i refl refl) (b .at .0) refl
+      (Steps.goes-on I q e M (W .used) (x ∷ W .log) Stage.checkLink
+      (record {
+        v = v;
+        is = refl;
+        new = λ h. (W .w .now, List·Memᴰ·head refl);
+        old = λ h. OrderLaws.no-false (sym (OrderLaws.written-here x (W .log) i tt refl) ∙ h);
+      }))
+      (λ P. Log.log-go q e M (W .used) P Stage.checkLink)
 
-          cells′ : (j : ℕ) → j < G .m → CellOk G oldLink W′ j
-          cells′ j hj = at-j (ℕ-discrete j i)
-            where
-              at-j : Dec (j ≡ i) → CellOk G oldLink W′ j
-              at-j (yes z) =
-                  rw z
-                  (Calm.certified I q e M (W .used) (go Stage.checkLink) (x ∷ W .log) O i refl (OrderLaws.written-here x (W .log) v i refl refl)
-                  (OrderLaws.value-here (G .f) x (W .log) v i refl refl ∙ sym here) (new t w y p₀ p₁ p₂) t)
-              at-j (no z) = beside (x ∷ W .log) (λ j ne. OrderLaws.written-away x (W .log) j ne) (λ j ne. OrderLaws.value-away (G .f) x (W .log) j ne) j hj z
+pub stores : {G : Grid} {oldLink : ℕ → Seen} {W : World} (I : Inv G oldLink W) (q i : ℕ) (o : Op) (v : ℕ) → Writes o v
+    → W .w .lane q ≡ busy o i Stage.store → KeptAt G oldLink W q o i Stage.store
+unfolding Kept
+stores {G} {oldLink} {W} I q i (write u) v h e = by (I .cells i (Steps.busyOk I q e .cell))
+  where
+    by : CellOk G oldLink W i → KeptAt G oldLink W q (write u) i Stage.store
+    by (old t k s) = ([], store-waits I q u i e t k)
+    by (new t y x p₀ p₁ p₂) = (Log.entry (W .w) q (write u) i done ∷ [], store-placed I q u i e t)

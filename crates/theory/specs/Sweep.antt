@@ -7,26 +7,20 @@ use mathlib.Core.List.{List, [], _∷_, _++_, List·Memᴰ, List·Memᴰ·head, 
 use Prim.Native.Nat.{ℕ, zero, suc, _≤_, _<_}
 use native.Mathlib.Decide.{ℕ-discrete}
 use native.Mathlib.Omega.{arith}
-use Rattle.theory.specs.Array.{read, asked, write, done}
+use Rattle.theory.specs.Array.{read, asked, write, alter, done}
 use Rattle.theory.specs.Order.{Entry, valueIn, writtenIn}
-use Rattle.theory.specs.Machine.{Grid, Link, Seen, Stage, marking, Lane, idle, busy}
+use Rattle.theory.specs.Machine.{Grid, Seen, Stage, marking, Lane, idle, busy}
 use Rattle.theory.specs.Standing.{After}
 use Rattle.theory.specs.OrderLaws
 use Rattle.theory.specs.World.{World, Unplaced}
-use Rattle.theory.specs.Claims.{Stored}
+use Rattle.theory.specs.Claims.{writes-is, Stored}
 use Rattle.theory.specs.Inv.{Judged, sure, dud, StageOk, BusyOk, Inv}
 use Rattle.theory.specs.Log
 use Rattle.theory.specs.Log.{Pre}
 
 -- the operation of a stored lane is a write of that cell
 stored-busy : (l : Lane) (i v : ℕ) → Stored l i v → (g : Stage) × (l ≡ busy (write v) i g) × After g
-stored-busy idle i v s = absurd s
-stored-busy (busy read c g) i v s = absurd (s .0)
-stored-busy (busy asked c g) i v s = absurd (s .0)
-stored-busy (busy (write x) c g) i v s = (g, ap₂′ (s .0) (s .1), s .2)
-  where
-    ap₂′ : x ≡ v → c ≡ i → busy (write x) c g ≡ busy (write v) i g
-    ap₂′ h k = cc
+stored-busy (busy o c g) i v s = (g, (λ z. busy (writes-is o v (s .0) z) (s .1 z) g), s .2)
 
 after? : (g : Stage) → Dec (After g)
 after? Stage.store = no (λ z. z)
@@ -35,13 +29,15 @@ after? (Stage.checkMarks S) = yes tt
 after? (Stage.checkDirectory S) = yes tt
 after? (Stage.checkMark S) = yes tt
 after? Stage.fetch = yes tt
+after? Stage.apply = no (λ z. z)
 after? (marking k) = yes tt
 
 -- a lane has stored to cell i, or not
 stored? : (l : Lane) (i : ℕ) → ((v : ℕ) × Stored l i v) ⊎ ((v : ℕ) → Stored l i v → ⊥)
 stored? idle i = inr (λ v s. s)
-stored? (busy read c g) i = inr (λ v s. s .0)
+stored? (busy (read flag) c g) i = inr (λ v s. s .0)
 stored? (busy asked c g) i = inr (λ v s. s .0)
+stored? (busy (alter a) c g) i = inr (λ v s. s .0)
 stored? (busy (write x) c g) i = by (ℕ-discrete c i) (after? g)
   where
     by : Dec (c ≡ i) → Dec (After g) → ((v : ℕ) × Stored (busy (write x) c g) i v) ⊎ ((v : ℕ) → Stored (busy (write x) c g) i v → ⊥)
@@ -49,7 +45,7 @@ stored? (busy (write x) c g) i = by (ℕ-discrete c i) (after? g)
     by (yes k) (no a) = inr (λ v s. a (s .2))
     by (no k) d = inr (λ v s. k (s .1))
 
-module _ {G : Grid} {oldLink : ℕ → Link} {W : World} (I : Inv G oldLink W) (i x : ℕ) (hi : writtenIn (W .log) i ≡ false) where
+module _ {G : Grid} {oldLink : ℕ → Seen} {W : World} (I : Inv G oldLink W) (i x : ℕ) (hi : writtenIn (W .log) i ≡ false) where
   -- the entry is one of those that the swap puts into the order
   pub record Newer (k : ℕ) (z : Entry) : Type 0 where
     pub r : ℕ
@@ -77,12 +73,11 @@ module _ {G : Grid} {oldLink : ℕ → Link} {W : World} (I : Inv G oldLink W) (
   unjudged r v S (dud z s) = s .old hi
 
   unplaced-of : (r v : ℕ) (g : Stage) → After g → StageOk G oldLink W r (write v) i g → Unplaced G oldLink W r
-  unplaced-of r v Stage.store a h = absurd a
   unplaced-of r v Stage.checkLink a h = h .old hi
   unplaced-of r v (Stage.checkMarks S) a h = unjudged r v S (h .0)
   unplaced-of r v (Stage.checkDirectory S) a h = unjudged r v S (h .0)
   unplaced-of r v (Stage.checkMark S) a h = unjudged r v S (h .0)
-  unplaced-of r v Stage.fetch a h = h .2
+  unplaced-of r v Stage.fetch a h = h .2 .0
   unplaced-of r v (marking k) a h = h .0 .old hi
 
   -- one more write on top

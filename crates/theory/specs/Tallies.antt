@@ -1,4 +1,4 @@
--- The tally: for which cells and by which processes a write has begun; a begun write enters it.
+-- The tally: for which cells and by which processes an operation has begun that counts as a write; a begun one enters it.
 -- Assumes nothing.
 use mathlib.Core.Path.{_≡_, refl, sym, ap, _∙_, subst}
 use mathlib.Core.Logic.{inl, inr, ⊎-elim}
@@ -6,10 +6,11 @@ use Prim.Native.Nat.{ℕ, _+_, _^_, _≤_, _<_}
 use native.Mathlib.Decide.{ℕ-discrete}
 use native.Mathlib.Omega.{arith}
 use Rattle.theory.specs.Base.{upd, upd-same, upd-other}
-use Rattle.theory.specs.Array.{Op, read, asked, write, Writing}
+use Rattle.theory.specs.Array.{Op, read, asked, write, alter, Writing}
 use Rattle.theory.specs.Machine.{Grid, Link, Stage, Lane, idle, busy, Mem, Watch, firstStage, started, opened}
 use Rattle.theory.specs.Run.{Tally, tallied}
 use Rattle.theory.specs.Standing.{frontAt, front}
+use Rattle.theory.specs.Plan.{first-cases}
 use Rattle.theory.specs.Account.{Owed, Drawn, Account}
 
 -- what was counted stays counted
@@ -24,15 +25,21 @@ upd-one f i j h = by (ℕ-discrete j i)
     by (yes k) = rw k (upd-same f i 1)
     by (no k) = upd-other f i 1 j k ∙ h
 
+-- an operation enters its cell and its process, or leaves the tally
+tallied-cases : (P : Tally → Type 0) (T : Tally) (q : ℕ) (o : Op) (i : ℕ) → P T
+    → P (record { cells = upd (T .cells) i 1; procs = upd (T .procs) q 1 }) → P (tallied T q o i)
+tallied-cases P T q (read flag) i h n = h
+tallied-cases P T q asked i h n = h
+tallied-cases P T q (write v) i h n = n
+tallied-cases P T q (alter a) i h n = n
+
 tallied-counts : (T : Tally) (q : ℕ) (o : Op) (i : ℕ) → Counts T (tallied T q o i)
-tallied-counts T q read i = record { cells = λ j h. h; procs = λ r h. h }
-tallied-counts T q asked i = record { cells = λ j h. h; procs = λ r h. h }
-tallied-counts T q (write v) i = record { cells = λ j h. upd-one (T .cells) i j h; procs = λ r h. upd-one (T .procs) q r h }
+tallied-counts T q o i = tallied-cases (λ T′. Counts T T′) T q o i (record { cells = λ j h. h; procs = λ r h. h })
+    (record { cells = λ j h. upd-one (T .cells) i j h; procs = λ r h. upd-one (T .procs) q r h })
 
 tallied-new : (T : Tally) (q : ℕ) (o : Op) (i : ℕ) → Writing o → (tallied T q o i .cells i ≡ 1) × (tallied T q o i .procs q ≡ 1)
-tallied-new T q read i h = absurd h
-tallied-new T q asked i h = absurd h
-tallied-new T q (write v) i h = (upd-same (T .cells) i 1, upd-same (T .procs) q 1)
+tallied-new T q (write v) i w = (upd-same (T .cells) i 1, upd-same (T .procs) q 1)
+tallied-new T q (alter a) i w = (upd-same (T .cells) i 1, upd-same (T .procs) q 1)
 
 upd-le : (f : ℕ → ℕ) (i j : ℕ) → ((k : ℕ) → f k ≤ 1) → upd f i 1 j ≤ 1
 upd-le f i j h = by (ℕ-discrete j i)
@@ -45,14 +52,7 @@ abbrev pub Ones : Tally → Type 0
 Ones T = ((i : ℕ) → T .cells i ≤ 1) × ((q : ℕ) → T .procs q ≤ 1)
 
 pub tallied-ones : (T : Tally) (q : ℕ) (o : Op) (i : ℕ) → Ones T → Ones (tallied T q o i)
-tallied-ones T q read i h = h
-tallied-ones T q asked i h = h
-tallied-ones T q (write v) i h = ((λ j. upd-le (T .cells) i j (h .0)), (λ j. upd-le (T .procs) q j (h .1)))
-
-first-front : (o : Op) (c : ℕ) → frontAt (firstStage o) c ≡ c
-first-front read c = refl
-first-front asked c = refl
-first-front (write v) c = refl
+tallied-ones T q o i h = tallied-cases Ones T q o i h ((λ j. upd-le (T .cells) i j (h .0)), (λ j. upd-le (T .procs) q j (h .1)))
 
 module _ {G : Grid} {oldLink : ℕ → Link} where
   owed-counts : (T T′ : Tally) → Counts T T′ → (M : Mem) (q k : ℕ) → Owed G oldLink T M q k → Owed G oldLink T′ M q k
@@ -83,6 +83,9 @@ module _ {G : Grid} {oldLink : ℕ → Link} where
           by (yes h) = rw h (new v j g (sym (upd-same (w .lane) q l) ∙ ap (upd (w .lane) q l) (sym h) ∙ k) b)
           by (no h) = let y = A .begun r v j g (sym (upd-other (w .lane) q l r h) ∙ k) b in (C .cells j (y .0), C .procs r (y .1))
 
+      first : frontAt (firstStage o) (w .mem .inForce q) ≡ w .mem .inForce q
+      first = first-cases (λ g. frontAt g (w .mem .inForce q) ≡ w .mem .inForce q) o refl refl
+
       fronts′ : (r k : ℕ) → k < front (upd (w .lane) q l r) (w .mem .inForce r) → Owed G oldLink T′ (w .mem) r k
       fronts′ r k = by (ℕ-discrete r q)
         where
@@ -90,7 +93,7 @@ module _ {G : Grid} {oldLink : ℕ → Link} where
           by (yes h) =
               rw h
               (rw (upd-same (w .lane) q l)
-              (λ y. owed-counts T T′ C (w .mem) q k (A .fronts q k (rw free (rw (first-front o (w .mem .inForce q)) at y)))))
+              (λ y. owed-counts T T′ C (w .mem) q k (A .fronts q k (rw free (rw first at y)))))
           by (no h) = rw (upd-other (w .lane) q l r h) (λ y. owed-counts T T′ C (w .mem) r k (A .fronts r k y))
 
       draws′ : (r : ℕ) → Drawn G oldLink T′ (w .mem) r

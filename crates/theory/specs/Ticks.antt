@@ -1,35 +1,49 @@
 -- Steps counted: how many steps of its own a process has taken at most when it stands at a stage.
 -- Assumes nothing.
-use mathlib.Core.Path.{_≡_, refl, ap}
+use mathlib.Core.Path.{_≡_, ap}
 use mathlib.Core.Logic.{_⊎_, inl, inr, _≢_}
 use mathlib.Core.Bool.{Bool, true, false}
 use Prim.Native.Nat.{ℕ, zero, suc, _+_, _-_, _≤_, _<_}
 use native.Mathlib.Decide.{ℕ-discrete, decLt}
 use native.Mathlib.Omega.{arith}
 use Rattle.theory.specs.Base.{pick}
-use Rattle.theory.specs.Array.{Op, read, asked, write, Writing}
+use Rattle.theory.specs.Array.{Op, read, asked, write, alter, Writing}
 use Rattle.theory.specs.Segments
-use Rattle.theory.specs.Machine.{Grid, Link, mk, Seen, Marking, Stage, marking, busy, Mem, keep, setLink, Next, go, end}
-use Rattle.theory.specs.Machine.{Turn, turnTo, poke, sameLink, look, passed, plan, failed, markTurn, takeTurn}
+use Rattle.theory.specs.Machine.{Grid, Link, mk, Seen, Marking, Stage, marking, busy, Mem, keep, Next, go, end}
+use Rattle.theory.specs.Machine.{Turn, turnTo, poke, sameSeen, passed, certify, look, plan, failed, markTurn, takeTurn}
 use Rattle.theory.specs.Words.{Words}
 use Rattle.theory.specs.World.{World}
-use Rattle.theory.specs.Claims.{Writes, mine-writes}
+use Rattle.theory.specs.Claims.{writes-is}
 use Rattle.theory.specs.Inv.{Clear, Inv}
-use Rattle.theory.specs.Plan.{use-cases, plan-cases, past-tombstone}
-use Rattle.theory.specs.Steps.{busyOk}
+use Rattle.theory.specs.Plan.{failed-cases, use-cases, plan-cases, past-tombstone}
+use Rattle.theory.specs.Steps.{busyOk, marks-writes}
 use Rattle.theory.specs.Layout.{Layout}
 
--- a read ends by its own step 5, asked by 4, a write by 11
+-- a read ends by its own step 5, asked by 4, a write or an alteration by 11
 abbrev pub bound : Op → ℕ
-bound read = 5
+bound (read flag) = 5
 bound asked = 4
 bound (write v) = 11
+bound (alter a) = 11
 
 -- the steps before the check: a write stores
 abbrev pub late : Op → ℕ
-late read = 0
+late (read flag) = 0
 late asked = 0
 late (write v) = 1
+late (alter a) = 0
+
+-- a check takes four steps at most
+pub check-bound : (o : Op) → late o + 4 ≤ bound o
+check-bound (read flag) = omega arith
+check-bound asked = omega arith
+check-bound (write v) = omega arith
+check-bound (alter a) = omega arith
+
+-- and with rules 3 to 8 an operation has taken ten
+pub marking-bound : (o : Op) → Writing o → late o + 10 ≤ bound o
+marking-bound (write v) w = omega arith
+marking-bound (alter a) w = omega arith
 
 module _ (G : Grid) where
   -- process q, with d segments drawn, stands at rules 3 to 8 after t steps of its own
@@ -49,7 +63,8 @@ module _ (G : Grid) where
   TickOk c d q o (Stage.checkMarks S) t = t ≤ late o + 1
   TickOk c d q o (Stage.checkDirectory S) t = (t ≤ late o + 2) × (S .at .proc ≡ q → S .at .place < c)
   TickOk c d q o (Stage.checkMark S) t = (t ≤ late o + 3) × (S .at .proc ≡ q → S .at .place < c)
-  TickOk c d q o Stage.fetch t = t ≤ 4
+  TickOk c d q o Stage.fetch t = t < bound o
+  TickOk c d q o Stage.apply t = t < bound o
   TickOk c d q o (marking k) t = TickIn d q o k t
 
   abbrev pub NxTick : ℕ → ℕ → ℕ → Op → Next → ℕ → Type 0
@@ -68,27 +83,21 @@ module _ (G : Grid) where
 
   fail-tick : (M : Mem) (q : ℕ) (o : Op) (i : ℕ) (S : Seen) (t : ℕ) → t ≤ late o + 4 → (S .at ≡ mk q (M .inForce q) → t ≤ late o + 2)
       → NxTick (M .inForce q) (M .drawn q) q o (failed G M q o i S) t
-  fail-tick M q read i S t h k = omega arith
-  fail-tick M q asked i S t h k = omega arith
-  fail-tick M q (write v) i S t h k = plan-tick M q (write v) false S (M .inForce q) t tt k h
+  fail-tick M q o i S t h k = failed-cases (λ nx c. NxTick (M .inForce q) (M .drawn q) q o nx t) G M q o i S
+      (λ nw. omega (arith, check-bound o)) (plan-tick M q o false S (M .inForce q) t tt k h)
 
   pass-tick : (c d q : ℕ) (o : Op) (t : ℕ) → t ≤ late o + 4 → NxTick c d q o (passed o) t
-  pass-tick c d q read t h = omega arith
+  pass-tick c d q (read flag) t h = omega arith
   pass-tick c d q asked t h = omega arith
   pass-tick c d q (write v) t h = omega arith
+  pass-tick c d q (alter a) t h = omega arith
 
   -- what is left after the swap or the take-back
   rest-tick : (c d q : ℕ) (o : Op) (t : ℕ) → Writing o → t ≤ late o + 10 → NxTick c d q o (passed o) t
-  rest-tick c d q read t w h = absurd w
-  rest-tick c d q asked t w h = absurd w
   rest-tick c d q (write v) t w h = omega arith
+  rest-tick c d q (alter a) t w h = omega arith
 
-  is-one : (o : Op) (v : ℕ) → Writes o v → late o ≡ 1
-  is-one read v h = absurd h
-  is-one asked v h = absurd h
-  is-one (write x) v h = refl
-
-module _ {G : Grid} {oldLink : ℕ → Link} {W : World} (I : Inv G oldLink W) {P : Words} {own : ℕ → Link} (Y : Layout G W P own) (q : ℕ) (o : Op) (i : ℕ) where
+module _ {G : Grid} {oldLink : ℕ → Seen} {W : World} (I : Inv G oldLink W) {P : Words} {own : ℕ → Link} (Y : Layout G W P own) (q : ℕ) (o : Op) (i : ℕ) where
   abbrev M : Mem
   M = W .w .mem
 
@@ -106,9 +115,6 @@ module _ {G : Grid} {oldLink : ℕ → Link} {W : World} (I : Inv G oldLink W) {
           let d = Y .stages q o i (marking (Marking.enter s S (suc n))) k .0 in
           omega (arith, Segments.seg-double (G .shape) n (omega arith), d)
 
-  writes : {k : Marking} → W .w .lane q ≡ busy o i (marking k) → Writing o
-  writes e = mine-writes G oldLink W q o i (busyOk I q e .at .0)
-
   tick-marking : (k : Marking) (e : W .w .lane q ≡ busy o i (marking k)) (t : ℕ) → TickIn G (M .drawn q) q o k t
       → Ticked (markTurn G M q o i k) t
   tick-marking (Marking.draw s S n) e t h = ((λ u. omega (arith, h .0 u)), omega (arith, h .1))
@@ -125,12 +131,13 @@ module _ {G : Grid} {oldLink : ℕ → Link} {W : World} (I : Inv G oldLink W) {
           (λ y u. absurd (away u)) (λ y u. omega (arith, h .0)) (λ y. absurd (let z : ⊥ = omega arith in z))
   tick-marking (Marking.mark S n) e t h = omega arith
   tick-marking (Marking.force S n) e t h = omega arith
-  tick-marking (Marking.swap S n) e t h = by (sameLink (M .link i) (S .at))
+  tick-marking (Marking.swap S n) e t h = by (sameSeen (look G M i) S)
     where
-      by : (z : Dec (M .link i ≡ S .at)) → Ticked (pick z (turnTo (setLink i (mk q n)) (passed o)) (turnTo keep (go (marking (Marking.takeBack n))))) t
-      by (yes k) = rest-tick G _ _ q o (suc t) (writes e) (omega arith)
+      by : (z : Dec (look G M i ≡ S))
+          → Ticked (pick z (turnTo (certify o i (G .f i) (mk q n)) (passed o)) (turnTo keep (go (marking (Marking.takeBack n))))) t
+      by (yes k) = rest-tick G _ _ q o (suc t) (marks-writes I q e) (omega arith)
       by (no k) = omega arith
-  tick-marking (Marking.takeBack n) e t h = rest-tick G _ _ q o (suc t) (writes e) (omega arith)
+  tick-marking (Marking.takeBack n) e t h = rest-tick G _ _ q o (suc t) (marks-writes I q e) (omega arith)
 
   -- the check goes on, passes or fails
   tick-test : {X : Type 0} (z : Dec X) (nx : Next) (S : Seen) (t : ℕ)
@@ -143,8 +150,8 @@ module _ {G : Grid} {oldLink : ℕ → Link} {W : World} (I : Inv G oldLink W) {
   -- one step of the own clock
   pub tick : (g : Stage) (e : W .w .lane q ≡ busy o i g) (t : ℕ) → TickOk G (M .inForce q) (M .drawn q) q o g t
       → Ticked (takeTurn G M q o i g) t
-  tick Stage.store e t h = let b = busyOk I q e in omega (arith, is-one G o (b .at .1 .0) (b .at .1 .1))
-  tick Stage.checkLink e t h = let S = look M i in
+  tick Stage.store e t h = let b = busyOk I q e in omega (arith, ap late (writes-is o (b .at .1 .0) (b .at .1 .1)))
+  tick Stage.checkLink e t h = let S = look G M i in
       tick-test (decLt (S .at .proc) (G .p)) (go (Stage.checkMarks S)) S t (λ k. omega arith) (λ k. (omega arith, λ u. omega arith))
   tick (Stage.checkMarks S) e t h = tick-test (decLt (S .at .place) (M .inForce (S .at .proc))) (go (Stage.checkDirectory S)) S t
       (λ k. (omega arith, λ u. rw u at k)) (λ k. (omega arith, λ u. omega arith))
@@ -156,5 +163,6 @@ module _ {G : Grid} {oldLink : ℕ → Link} {W : World} (I : Inv G oldLink W) {
       below u = let x = h .1 (ap (λ (y : Link). y .proc) u) in
           let z : S .at .place ≡ M .inForce q = ap (λ (y : Link). y .place) u in
           let y : ⊥ = omega arith in y
-  tick Stage.fetch e t h = let b = busyOk I q e in rw (b .at .0) (omega arith)
+  tick Stage.fetch e t h = h
+  tick Stage.apply e t h = h
   tick (marking k) e t h = tick-marking k e t h

@@ -6,13 +6,14 @@ use Prim.Native.Nat.{ℕ, suc, _+_, _≤_, _<_}
 use native.Mathlib.Decide.{ℕ-discrete}
 use native.Mathlib.Omega.{arith}
 use Rattle.theory.specs.Base.{upd, upd-same, upd-other}
-use Rattle.theory.specs.Array.{Op, read, asked, write, Writing}
-use Rattle.theory.specs.Machine.{Grid, Link, Marking, Stage, marking, Lane, busy, Mem, Change, keep, setReading, setLink, setInForce}
+use Rattle.theory.specs.Array.{Op}
+use Rattle.theory.specs.Machine.{Grid, Link, Seen, Marking, Stage, marking, Lane, busy, Mem, Change, keep, setReading, setLink, setBoth, setInForce}
 use Rattle.theory.specs.Machine.{setDrawn, setMark, Next, go, end, poke, takeTurn, Watch, firstStage, nextLane, started, stepped}
 use Rattle.theory.specs.Words.{Words}
 use Rattle.theory.specs.World.{World}
-use Rattle.theory.specs.Claims.{mine-writes}
+use Rattle.theory.specs.Claims.{marker-writes}
 use Rattle.theory.specs.Inv.{StageOk, Inv}
+use Rattle.theory.specs.Plan.{first-cases}
 use Rattle.theory.specs.Steps.{busyOk}
 use Rattle.theory.specs.Layout.{Layout}
 use Rattle.theory.specs.Ticks
@@ -22,6 +23,7 @@ poke-inForce : (M : Mem) (q r : ℕ) (c : Change) → r ≢ q → poke M q c .in
 poke-inForce M q r keep ne = refl
 poke-inForce M q r (setReading j v) ne = refl
 poke-inForce M q r (setLink j L) ne = refl
+poke-inForce M q r (setBoth j v L) ne = refl
 poke-inForce M q r (setInForce n) ne = upd-other (M .inForce) q n r ne
 poke-inForce M q r (setDrawn n) ne = refl
 poke-inForce M q r (setMark n v) ne = refl
@@ -30,6 +32,7 @@ poke-drawn : (M : Mem) (q r : ℕ) (c : Change) → r ≢ q → poke M q c .draw
 poke-drawn M q r keep ne = refl
 poke-drawn M q r (setReading j v) ne = refl
 poke-drawn M q r (setLink j L) ne = refl
+poke-drawn M q r (setBoth j v L) ne = refl
 poke-drawn M q r (setInForce n) ne = refl
 poke-drawn M q r (setDrawn n) ne = upd-other (M .drawn) q n r ne
 poke-drawn M q r (setMark n v) ne = refl
@@ -39,9 +42,7 @@ module _ (G : Grid) where
   Timely w taken = (q : ℕ) (o : Op) (i : ℕ) (g : Stage) → w .lane q ≡ busy o i g → TickOk G (w .mem .inForce q) (w .mem .drawn q) q o g (taken q)
 
   first-tick : (c d q : ℕ) (o : Op) → TickOk G c d q o (firstStage o) 0
-  first-tick c d q read = omega arith
-  first-tick c d q asked = omega arith
-  first-tick c d q (write v) = omega arith
+  first-tick c d q o = first-cases (λ g. TickOk G c d q o g 0) o (omega arith) (omega arith)
 
   pub timely-start : (w : Watch) (taken : ℕ → ℕ) → Timely w taken → (q : ℕ) (o : Op) (i : ℕ) → Timely (started w q o i) (upd taken q 0)
   unfolding Timely
@@ -59,7 +60,7 @@ module _ (G : Grid) where
           (subst (λ (x : Stage). TickOk G (w .mem .inForce r) (w .mem .drawn r) r o x 0) hg (first-tick (w .mem .inForce r) (w .mem .drawn r) r o)))
       by (no h) = rw (upd-other taken q 0 r h) (T r o₁ i₁ g₁ (sym (upd-other (w .lane) q l r h) ∙ k))
 
-module _ {G : Grid} {oldLink : ℕ → Link} {W : World} (I : Inv G oldLink W) {P : Words} {own : ℕ → Link} (Y : Layout G W P own) where
+module _ {G : Grid} {oldLink : ℕ → Seen} {W : World} (I : Inv G oldLink W) {P : Words} {own : ℕ → Link} (Y : Layout G W P own) where
   abbrev after : ℕ → Op → ℕ → Stage → Mem
   after q o i g = poke (W .w .mem) q (takeTurn G (W .w .mem) q o i g .change)
 
@@ -98,11 +99,6 @@ module _ {G : Grid} {oldLink : ℕ → Link} {W : World} (I : Inv G oldLink W) {
       → TickOk G (W .w .mem .inForce q) (W .w .mem .drawn q) q o g t → t < Ticks.bound o
   tick-bound q o i g e t h = by g (busyOk I q e .at) h
     where
-      small : (o : Op) → Ticks.late o + 3 < Ticks.bound o
-      small read = omega arith
-      small asked = omega arith
-      small (write v) = omega arith
-
       marked : (k : Marking) → TickIn G (W .w .mem .drawn q) q o k t → t ≤ Ticks.late o + 9
       marked (Marking.draw s S n) h = omega (arith, h .1)
       marked (Marking.enter s S n) h = omega (arith, h .1)
@@ -112,16 +108,12 @@ module _ {G : Grid} {oldLink : ℕ → Link} {W : World} (I : Inv G oldLink W) {
       marked (Marking.swap S n) h = omega arith
       marked (Marking.takeBack n) h = h
 
-      rest : (o : Op) → Writing o → Ticks.late o + 9 < Ticks.bound o
-      rest read w = absurd w
-      rest asked w = absurd w
-      rest (write v) w = omega arith
-
       by : (g : Stage) → StageOk G oldLink W q o i g → TickOk G (W .w .mem .inForce q) (W .w .mem .drawn q) q o g t → t < Ticks.bound o
-      by Stage.store b h = omega (arith, small o)
-      by Stage.checkLink b h = omega (arith, small o)
-      by (Stage.checkMarks S) b h = omega (arith, small o)
-      by (Stage.checkDirectory S) b h = omega (arith, small o, h .0)
-      by (Stage.checkMark S) b h = omega (arith, small o, h .0)
-      by Stage.fetch b h = rw (b .0) (omega arith)
-      by (marking k) b h = omega (arith, marked k h, rest o (mine-writes G oldLink W q o i (b .0)))
+      by Stage.store b h = omega (arith, Ticks.check-bound o)
+      by Stage.checkLink b h = omega (arith, Ticks.check-bound o)
+      by (Stage.checkMarks S) b h = omega (arith, Ticks.check-bound o)
+      by (Stage.checkDirectory S) b h = omega (arith, Ticks.check-bound o, h .0)
+      by (Stage.checkMark S) b h = omega (arith, Ticks.check-bound o, h .0)
+      by Stage.fetch b h = h
+      by Stage.apply b h = h
+      by (marking k) b h = omega (arith, marked k h, Ticks.marking-bound o (marker-writes G oldLink W q o i (b .0)))

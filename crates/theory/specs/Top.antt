@@ -6,12 +6,13 @@ use native.Mathlib.Omega.{arith}
 use Rattle.theory.specs.Base.{pick}
 use Rattle.theory.specs.Array.{Op}
 use Rattle.theory.specs.Segments.{pow-pos}
-use Rattle.theory.specs.Machine.{Grid, Link, mk, Marking, Stage, marking, busy}
-use Rattle.theory.specs.Machine.{keep, setLink, go, turnTo, sameLink, passed, markTurn, takeTurn, Watch, stepped}
+use Rattle.theory.specs.Machine.{Grid, Link, mk, Seen, Marking, Stage, marking, busy}
+use Rattle.theory.specs.Machine.{keep, go, turnTo, sameSeen, passed, certify, look, markTurn, takeTurn, Watch, stepped}
 use Rattle.theory.specs.Words.{Words, wordsMarked, wordsAfter}
 use Rattle.theory.specs.World.{World}
 use Rattle.theory.specs.Inv.{Inv}
 use Rattle.theory.specs.Steps.{busyOk}
+use Rattle.theory.specs.Swap.{certify-cases}
 use Rattle.theory.specs.Sum.{sum, sum-upd}
 use Rattle.theory.specs.Count.{handed}
 use Rattle.theory.specs.Layout.{Layout}
@@ -20,7 +21,7 @@ module _ (G : Grid) where
   unfoldable pub Sums : Watch → Words → Type 0
   Sums w P = P .top ≡ sum (λ r. handed (w .mem .drawn r)) (G .p)
 
-module _ {G : Grid} {oldLink : ℕ → Link} {W : World} (I : Inv G oldLink W) {P : Words} {own : ℕ → Link} (Y : Layout G W P own) (T : Sums G (W .w) P)
+module _ {G : Grid} {oldLink : ℕ → Seen} {W : World} (I : Inv G oldLink W) {P : Words} {own : ℕ → Link} (Y : Layout G W P own) (T : Sums G (W .w) P)
     (q : ℕ) (o : Op) (i : ℕ) where
   sums-marking : (k : Marking) → W .w .lane q ≡ busy o i (marking k) → Sums G (stepped (W .w) q o i (markTurn G (W .w .mem) q o i k)) (wordsMarked G P q i k)
   unfolding Sums
@@ -36,11 +37,11 @@ module _ {G : Grid} {oldLink : ℕ → Link} {W : World} (I : Inv G oldLink W) {
   sums-marking (Marking.tombstone S n) e = T
   sums-marking (Marking.mark S n) e = T
   sums-marking (Marking.force S n) e = T
-  sums-marking (Marking.swap S n) e = by (sameLink (W .w .mem .link i) (S .at))
+  sums-marking (Marking.swap S n) e = by (sameSeen (look G (W .w .mem) i) S)
     where
-      by : (z : Dec (W .w .mem .link i ≡ S .at))
-          → Sums G (stepped (W .w) q o i (pick z (turnTo (setLink i (mk q n)) (passed o)) (turnTo keep (go (marking (Marking.takeBack n)))))) P
-      by (yes k) = T
+      by : (z : Dec (look G (W .w .mem) i ≡ S))
+          → Sums G (stepped (W .w) q o i (pick z (turnTo (certify o i (G .f i) (mk q n)) (passed o)) (turnTo keep (go (marking (Marking.takeBack n)))))) P
+      by (yes k) = certify-cases (λ x. P .top ≡ sum (λ r. handed (x .drawn r)) (G .p)) (W .w .mem) q o i (G .f i) (mk q n) (λ reading. T)
       by (no k) = T
   sums-marking (Marking.takeBack n) e = T
 
@@ -52,4 +53,5 @@ module _ {G : Grid} {oldLink : ℕ → Link} {W : World} (I : Inv G oldLink W) {
   sums-step (Stage.checkDirectory S) e = T
   sums-step (Stage.checkMark S) e = T
   sums-step Stage.fetch e = T
+  sums-step Stage.apply e = T
   sums-step (marking k) e = sums-marking k e

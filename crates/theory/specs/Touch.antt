@@ -32,4 +32,5 @@ module _ (G : Grid) where
       (S .at .proc < G .p) × (G .shape .seg (S .at .place) < G .shape .segments) × (S .at .place < mostMarks G)
   Touch P q i (Stage.checkMark S) = (S .at .proc < G .p) × Inside (P .held q) (S .at .place) × (S .at .place < mostMarks G)
   Touch P q i Stage.fetch = i < G .m
+  Touch P q i Stage.apply = i < G .m
   Touch P q i (marking k) = TouchIn P q i k

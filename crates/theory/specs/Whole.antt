@@ -9,16 +9,16 @@ use Rattle.theory.specs.Base.{pick}
 use Rattle.theory.specs.Array.{Op}
 use Rattle.theory.specs.Order.{Entry, Grown}
 use Rattle.theory.specs.OrderLaws.{grown-same, grown-on}
-use Rattle.theory.specs.Machine.{Grid, mostMarks, Lawful, Link, mk, Stage, Lane, idle, busy, takeTurn, stepped, opened}
+use Rattle.theory.specs.Machine.{Grid, mostMarks, Lawful, Link, mk, Seen, Suits, suits?, Stage, Lane, idle, busy, takeTurn, stepped, opened}
 use Rattle.theory.specs.Words.{wordsAfter}
 use Rattle.theory.specs.Run.{Call, begin, step, Run, passRun, beginRun, stepRun, callBegin, callStep, afterCall, afterCalls, openedRun}
 use Rattle.theory.specs.Standing.{usedNext}
-use Rattle.theory.specs.World.{World}
+use Rattle.theory.specs.World.{World, linksOf}
 use Rattle.theory.specs.Inv.{Inv}
 use Rattle.theory.specs.Steps.{Kept, KeptAt}
 use Rattle.theory.specs.ByStage.{by-stage}
 use Rattle.theory.specs.Rest.{rest-inv}
-use Rattle.theory.specs.Begin.{start-inv, opened-inv}
+use Rattle.theory.specs.Begin.{start-inv, oldSeen, opened-inv}
 use Rattle.theory.specs.Sum.{sum-zero}
 use Rattle.theory.specs.Account.{Account}
 use Rattle.theory.specs.AccountSteps.{acc-stage}
@@ -31,16 +31,16 @@ use Rattle.theory.specs.Top.{Sums, sums-step}
 use Rattle.theory.specs.Ranges.{few-step}
 use Rattle.theory.specs.Timely.{Timely, timely-start, timely-step}
 
--- Four ghosts: the link of each cell before it was ever swapped; the order so far, the newest first; how many places of
+-- Four ghosts: what (a) would have seen of each cell before it was ever swapped; the order so far, the newest first; how many places of
 -- each lane have ever been used; and of each word of the pool the lane and the segment that own it.
 pub record Whole (G : Grid) (R : Run) : Type 0 where
-  pub oldLink : ℕ → Link
+  pub oldLink : ℕ → Seen
   pub log : List Entry
   pub used : ℕ → ℕ
   pub owner : ℕ → Link
   pub inv : Inv G oldLink (record { w = R .watch; log = log; used = used })
   pub layout : Layout G (record { w = R .watch; log = log; used = used }) (R .words) owner
-  pub account : Account G oldLink (R .tally) (R .watch)
+  pub account : Account G (linksOf oldLink) (R .tally) (R .watch)
   pub ones : Ones (R .tally)
   pub few : (q : ℕ) → used q ≤ mostMarks G
   pub top : Sums G (R .watch) (R .words)
@@ -85,15 +85,15 @@ module _ {G : Grid} (A : Lawful G) {R : Run} (H : Whole G R) where
   pub whole-pass : Later H (passRun R)
   whole-pass = whole-rest (suc (R .watch .now)) (R .watch .since) (R .taken) (omega arith) (λ r o i g k. (refl, refl))
 
-  pub whole-begin : (q : ℕ) (o : Op) (i : ℕ) → R .watch .lane q ≡ idle → q < G .p → i < G .m → Later H (beginRun R q o i)
+  pub whole-begin : (q : ℕ) (o : Op) (i : ℕ) → R .watch .lane q ≡ idle → q < G .p → i < G .m → Suits (G .pair) o → Later H (beginRun R q o i)
   unfolding Sums
-  whole-begin q o i free hq hi = record {
+  whole-begin q o i free hq hi suits = record {
     whole = record {
       oldLink = H .oldLink;
       log = H .log;
       used = H .used;
       owner = H .owner;
-      inv = start-inv (H .inv) q o i free hq hi;
+      inv = start-inv (H .inv) q o i free hq hi suits;
       layout = lay-begin (H .layout) q o i free;
       account = Tallies.acc-start (H .account) q o i free;
       ones = Tallies.tallied-ones (R .tally) q o i (H .ones);
@@ -137,12 +137,14 @@ module _ {G : Grid} (A : Lawful G) {R : Run} (H : Whole G R) where
     where
       by : (l : Lane) → R .watch .lane q ≡ l → Later H (callBegin G R q o i l)
       by (busy o₁ i₁ g₁) e = whole-pass
-      by idle e = fit (decLt q (G .p)) (decLt i (G .m))
+      by idle e = fit (decLt q (G .p)) (decLt i (G .m)) (suits? (G .pair) o)
         where
-          fit : (a : Dec (q < G .p)) (b : Dec (i < G .m)) → Later H (pick a (pick b (beginRun R q o i) (passRun R)) (passRun R))
-          fit (yes x) (yes y) = whole-begin q o i e x y
-          fit (yes x) (no y) = whole-pass
-          fit (no x) b = whole-pass
+          fit : (a : Dec (q < G .p)) (b : Dec (i < G .m)) (c : Dec (Suits (G .pair) o))
+              → Later H (pick a (pick b (pick c (beginRun R q o i) (passRun R)) (passRun R)) (passRun R))
+          fit (yes x) (yes y) (yes z) = whole-begin q o i e x y z
+          fit (yes x) (yes y) (no z) = whole-pass
+          fit (yes x) (no y) c = whole-pass
+          fit (no x) b c = whole-pass
   whole-call (step q) = by (R .watch .lane q) refl
     where
       by : (l : Lane) → R .watch .lane q ≡ l → Later H (callStep G R q l)
@@ -160,7 +162,7 @@ pub whole-opened : (G : Grid) (readings : ℕ → ℕ) (links : ℕ → Link) (m
     → Whole G (openedRun readings links marks directory pool held)
 unfolding opened Sums Timely
 whole-opened G readings links marks directory pool held = record {
-  oldLink = links;
+  oldLink = oldSeen G readings links;
   log = [];
   used = λ q. 0;
   owner = λ x. mk 0 0;

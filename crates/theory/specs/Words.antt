@@ -54,4 +54,5 @@ module _ (G : Grid) where
   wordsAfter P q i (Stage.checkDirectory S) = afterRead P q S
   wordsAfter P q i (Stage.checkMark S) = P
   wordsAfter P q i Stage.fetch = P
+  wordsAfter P q i Stage.apply = P
   wordsAfter P q i (marking k) = wordsMarked P q i k

@@ -1,31 +1,31 @@
 -- The swap of a write: won, all stored writes of the cell take their places, the one whose value is the reading last.
 -- Assumes nothing.
-use mathlib.Core.Path.{_≡_, refl, sym, ap, _∙_, subst}
+use mathlib.Core.Path.{_≡_, refl, sym, ap, _∙_}
 use mathlib.Core.Logic.{_⊎_, inl, inr, ⊎-elim, _≢_}
 use mathlib.Core.Bool.{true, false}
 use mathlib.Core.List.{List, [], _∷_, _++_, List·Memᴰ, List·Memᴰ·head, List·Memᴰ·tail, List·Memᴰ·cases-cons}
 use Prim.Native.Nat.{ℕ, _<_}
 use native.Mathlib.Decide.{ℕ-discrete}
 use native.Mathlib.Omega.{arith}
-use Rattle.theory.specs.Base.{pick, upd, upd-same, upd-other}
-use Rattle.theory.specs.Array.{Op, read, asked, write, done}
+use Rattle.theory.specs.Base.{pick, upd-other}
+use Rattle.theory.specs.Array.{Op, write, done}
 use Rattle.theory.specs.Order.{Entry, valueIn, writtenIn}
-use Rattle.theory.specs.Machine.{Grid, Link, mk, Seen, Marking, Stage, marking, idle, busy, Mem, keep, setLink, go, end, turnTo, poke, sameLink}
+use Rattle.theory.specs.Machine.{Grid, mk, Seen, Marking, Stage, marking, idle, busy, Mem, keep, setLink, go, end, turnTo, poke, sameSeen, look}
 use Rattle.theory.specs.Standing.{After}
 use Rattle.theory.specs.OrderLaws
-use Rattle.theory.specs.World.{World, Swapped, Unplaced}
-use Rattle.theory.specs.Claims.{Writes, Stored, Wrote}
+use Rattle.theory.specs.World.{World, Unplaced}
+use Rattle.theory.specs.Claims.{writes-is, Stored, Wrote}
 use Rattle.theory.specs.Inv.{BusyOk, CellOk, old, new, Inv}
 use Rattle.theory.specs.Log
 use Rattle.theory.specs.Log.{Pre}
 use Rattle.theory.specs.ClaimsKept.{NotStored, Frame}
-use Rattle.theory.specs.Calm.{Own, complete-inv, still-cell}
+use Rattle.theory.specs.Calm.{Own, complete-inv}
 use Rattle.theory.specs.Steps.{Kept, KeptAt, busyOk}
 use Rattle.theory.specs.Swap
 use Rattle.theory.specs.Sweep
 use Rattle.theory.specs.Sweep.{Newer, Swept}
 
-module _ {G : Grid} {oldLink : ℕ → Link} {W : World} (I : Inv G oldLink W) (q : ℕ) (u : ℕ) (i : ℕ) (S : Seen) (n : ℕ)
+module _ {G : Grid} {oldLink : ℕ → Seen} {W : World} (I : Inv G oldLink W) (q : ℕ) (u : ℕ) (i : ℕ) (S : Seen) (n : ℕ)
     (e : W .w .lane q ≡ busy (write u) i (marking (Marking.swap S n))) where
   abbrev M : Mem
   M = W .w .mem
@@ -36,8 +36,8 @@ module _ {G : Grid} {oldLink : ℕ → Link} {W : World} (I : Inv G oldLink W) (
   b : BusyOk G oldLink W q o i (marking (Marking.swap S n))
   b = busyOk I q e
 
-  -- while the link is the remembered one the cell is unwritten
-  not-yet : M .link i ≡ S .at → CellOk G oldLink W i
+  -- while the cell shows what is remembered it is unwritten
+  not-yet : look G M i ≡ S → CellOk G oldLink W i
       → (writtenIn (W .log) i ≡ false) × ((r v : ℕ) → Stored (W .w .lane r) i v → (r′ : ℕ) × Stored (W .w .lane r′) i (M .reading i))
   not-yet k (old t h s) = (t, s)
   not-yet k (new t w y p₀ p₁ p₂) = absurd (t (Swap.unswapped I q e k))
@@ -50,10 +50,10 @@ module _ {G : Grid} {oldLink : ℕ → Link} {W : World} (I : Inv G oldLink W) (
 
   O : Own I q e M′ (W .used) (end done)
   unfolding M′
-  O = Swap.own-swap I q e (M .reading) (upd (M .link) i (mk q n)) (end done) (λ c. refl)
+  O = Swap.own-swap I q e (M .reading) (end done) (λ c. refl)
 
   -- the swap itself: x is the process whose store came last
-  module _ (hl : M .link i ≡ oldLink i) (t : writtenIn (W .log) i ≡ false) (x : ℕ) (sx : Stored (W .w .lane x) i (M .reading i)) where
+  module _ (hl : M .link i ≡ oldLink i .at) (t : writtenIn (W .log) i ≡ false) (x : ℕ) (sx : Stored (W .w .lane x) i (M .reading i)) where
     swept : (newer : List Entry) × Swept I i x t (G .p) (newer ++ W .log)
     swept = Sweep.sweep I i x t (G .p)
 
@@ -102,11 +102,11 @@ module _ {G : Grid} {oldLink : ℕ → Link} {W : World} (I : Inv G oldLink W) (
 
     written′ : writtenIn log′ i ≡ true
     unfolding log′ last
-    written′ = OrderLaws.written-here last (swept .0 ++ W .log) (M .reading i) i refl refl
+    written′ = OrderLaws.written-here last (swept .0 ++ W .log) i tt refl
 
     value′ : valueIn (G .f) log′ i ≡ M .reading i
     unfolding log′ last
-    value′ = OrderLaws.value-here (G .f) last (swept .0 ++ W .log) (M .reading i) i refl refl
+    value′ = OrderLaws.value-written (G .f) last (swept .0 ++ W .log) (M .reading i) i refl refl
 
     same′ : (j : ℕ) → j ≢ i → writtenIn log′ j ≡ writtenIn (W .log) j
     unfolding log′ last
@@ -115,9 +115,6 @@ module _ {G : Grid} {oldLink : ℕ → Link} {W : World} (I : Inv G oldLink W) (
     vals′ : (j : ℕ) → j ≢ i → valueIn (G .f) log′ j ≡ valueIn (G .f) (W .log) j
     unfolding log′ last
     vals′ j ne = OrderLaws.value-away (G .f) last (swept .0 ++ W .log) j ne ∙ swept .1 .vals j ne
-
-    apart-i : (j : ℕ) → Swapped G oldLink W j → j ≢ i
-    apart-i j h z = h (subst (λ (y : ℕ). M .link y ≡ oldLink y) (sym z) hl)
 
     -- an unplaced lane that has not stored to this cell stays unplaced
     un : (r : ℕ) (o₁ : Op) (i₁ : ℕ) (g₁ : Stage) → W .w .lane r ≡ busy o₁ i₁ g₁ → ((v : ℕ) → Stored (busy o₁ i₁ g₁) i v → ⊥) → Unplaced G oldLink W r
@@ -137,7 +134,7 @@ module _ {G : Grid} {oldLink : ℕ → Link} {W : World} (I : Inv G oldLink W) (
       up = λ r. omega arith;
       since = λ r o₁ i₁ g₁ ne k. refl;
       now = omega arith;
-      link = λ j h. upd-other (M .link) i (mk q n) j (apart-i j h);
+      link = λ j h. upd-other (M .link) i (mk q n) j (Swap.elsewhere I q e hl j h);
       more = more′;
       fresh = λ r o₁ i₁ g₁ ne k ns u. un r o₁ i₁ g₁ k (λ v. ns i v) u;
       wrote = wrote′;
@@ -147,16 +144,11 @@ module _ {G : Grid} {oldLink : ℕ → Link} {W : World} (I : Inv G oldLink W) (
             → Wrote G oldLink W″ r o₁ i₁
         wrote′ r o₁ i₁ g₁ ne k a h = by (ℕ-discrete i₁ i)
           where
-            is-write : (o₁ : Op) (v : ℕ) → Writes o₁ v → o₁ ≡ write v
-            is-write read v z = absurd z
-            is-write asked v z = absurd z
-            is-write (write y) v z = ap write z
-
             by : Dec (i₁ ≡ i) → Wrote G oldLink W″ r o₁ i₁
             by (yes z) = record {
               v = h .v;
               is = h .is;
-              new = λ t₁. (W .w .now, rw (is-write o₁ (h .v) (h .is), z) (all′ r (h .v) (rw k (h .is, z, a))));
+              new = λ t₁. (W .w .now, rw (writes-is o₁ (h .v) (h .is), z) (all′ r (h .v) (rw k (h .is, z, a))));
               old = λ t₁. OrderLaws.no-false (sym written′ ∙ ap (writtenIn log′) (sym z) ∙ t₁);
             }
             by (no z) = record {
@@ -168,49 +160,22 @@ module _ {G : Grid} {oldLink : ℕ → Link} {W : World} (I : Inv G oldLink W) (
 
     cells′ : (j : ℕ) → j < G .m → CellOk G oldLink W″ j
     unfolding W″ M′
-    cells′ j hj = by (ℕ-discrete j i)
-      where
-        linked : upd (M .link) i (mk q n) i ≡ mk q n
-        linked = upd-same (M .link) i (mk q n)
-
-        mine : upd (W .w .lane) q idle q ≡ idle
-        mine = upd-same (W .w .lane) q idle
-
-        by : Dec (j ≡ i) → CellOk G oldLink W″ j
-        by (yes z) =
-            rw z
-            (new (rw linked (Swap.fresh-place I q e)) written′ value′ (rw linked (b .proc)) (rw linked (rw mine (omega (arith, b .at .1 .1))))
-            (rw linked (b .at .1 .0 .there)))
-        by (no z) = still-cell I q e M′ (W .used) (end done) log′ O j
-            (record {
-              same = same′ j z;
-              vals = vals′ j z;
-              link = upd-other (M .link) i (mk q n) j z;
-              reading = refl;
-              hold = λ v u s. absurd (z (sym (s .1)));
-              from = λ v s. absurd s;
-            })
-            hj
+    cells′ = Swap.cells-won I q e (M .reading) (end done) (λ c. refl) log′
+        (record { known = inl written′; holds = value′; same = same′; vals = vals′; reads = λ j ne. refl })
 
     swapped : Inv G oldLink W″
     unfolding W″
     swapped = complete-inv I q e M′ (W .used) (end done) log′ O frame tt cells′
         (Log.log-end q e M′ (W .used) pre′ done (W .w .now) (all′ q u (rw e (refl, refl, tt))))
 
-  write-swaps : KeptAt G oldLink W q o i (marking (Marking.swap S n))
+  pub write-swaps : KeptAt G oldLink W q o i (marking (Marking.swap S n))
   unfolding Kept W″ M′ log′
-  write-swaps = by (sameLink (M .link i) (S .at))
+  write-swaps = by (sameSeen (look G M i) S)
     where
-      by : (d : Dec (M .link i ≡ S .at))
+      by : (d : Dec (look G M i ≡ S))
           → Kept G oldLink W q o i (pick d (turnTo (setLink i (mk q n)) (end done)) (turnTo keep (go (marking (Marking.takeBack n))))) (W .used)
       by (yes k) = let h = Swap.unswapped I q e k in
           let z = not-yet k (I .cells i (b .cell)) in
           let y = z .1 q (b .at .0 .v) (rw e me) in
           (added h (z .0) (y .0) (y .1), swapped h (z .0) (y .0) (y .1))
       by (no k) = ([], Swap.lose I q e k)
-
-pub swaps : {G : Grid} {oldLink : ℕ → Link} {W : World} (I : Inv G oldLink W) (q : ℕ) (o : Op) (i : ℕ) (S : Seen) (n : ℕ)
-    → W .w .lane q ≡ busy o i (marking (Marking.swap S n)) → KeptAt G oldLink W q o i (marking (Marking.swap S n))
-swaps I q read i S n e = absurd (busyOk I q e .at .0)
-swaps I q asked i S n e = absurd (busyOk I q e .at .0)
-swaps I q (write u) i S n e = write-swaps I q u i S n e

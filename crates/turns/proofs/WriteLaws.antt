@@ -19,6 +19,7 @@ use Rattle.lanes.specs.declared.Marking.{Marking}
 use Rattle.lanes.specs.declared.Marking.the-variants as Marking
 use Rattle.lanes.specs.declared.Op.{Op}
 use Rattle.lanes.specs.declared.Op.the-variants as Op
+use Rattle.lanes.specs.declared.Whose.{Whose}
 use Rattle.lanes.specs.declared.Lane.{Lane}
 use Rattle.lanes.specs.Ranges.{placeIn, placeFits, laneFits, sizesFit}
 use Rattle.lanes.specs.Laws.{Sized, sized, lane-ok, rest-fits}
@@ -213,5 +214,6 @@ pub op-store : (z : Terms) (top q : ℕ) (l : Lane) (inForce : ℕ → ℕ) (mem
     → Turn.Turned (Change.Reading at v) (Next.Going (Op.Write i Check.Link)) ≡ opTurn z top q l inForce mem (l .op)
 op-store z top q l inForce mem i v at e f = rw (e, f)
 
-pub marking-fits : (z : Terms) (l : Lane) (i : Cell) (k : Marking) → laneFits z l ≡ true → l .op ≡ Op.Marking i k → placeFits z (placeIn k) ≡ true
-marking-fits z l i k h e = rest-fits z (l .steps) (Op.Marking i k) refl (rw e at (lane-ok z l h .op))
+pub marking-fits : (w : Whose) (z : Terms) (l : Lane) (i : Cell) (k : Marking) → laneFits w z l ≡ true → l .op ≡ Op.Marking i k
+    → placeFits z (placeIn k) ≡ true
+marking-fits w z l i k h e = rest-fits w z (l .steps) (Op.Marking i k) refl (rw e at (lane-ok w z l h .op))

@@ -6,11 +6,12 @@ ghost use Rattle.steps.specs.Memory.{memory};
 ghost use Rattle.steps.specs.Inner.{handed};
 ghost use Rattle.steps.specs.Steps.{goes, readTurn, askedTurn, turnOf};
 
-mod write;
+pub mod write;
 
 use lanes::Check;
 use lanes::Lane;
 use lanes::Op;
+use lanes::Whose;
 use numbers::Cell;
 use numbers::Mark;
 use numbers::Process;
@@ -27,7 +28,7 @@ fn goes(o: Op) -> Turn
     Turn::Turned(Change::Nothing, Next::Going(o))
 }
 
-fn read_turn(z: Terms, i: Cell, found: Found) -> Turn
+pub fn read_turn(z: Terms, i: Cell, found: Found) -> Turn
     ensures { λ r. ⌜ r ≡ readTurn z i found ⌝ }
 {
     match found {
@@ -61,7 +62,7 @@ pub fn turn_of(
     directory: &[u32],
     pool: &[Mark],
 ) -> Turn
-    requires { ⌜ (sizesFit z top ≡ true) × (laneFits z l ≡ true) ⌝ }
+    requires { ⌜ (sizesFit z top ≡ true) × (laneFits Whose.First z l ≡ true) ⌝ }
     ensures { λ r. ⌜ r ≡ turnOf z top (q .0) l (handed seen) (memory (now (readings .entry)) (now (links .entry)) (now (directory .entry)) (now (pool .entry))) ⌝ }
 {
     let o = l.op;
@@ -85,5 +86,7 @@ pub fn turn_of(
             write::checked_turn(q, l, i, found)
         }
         Op::Marking(i, k) => write::marking_turn(z, top, q, l, links, directory, pool, i, k),
+        Op::Alter(_, _) => Turn::Outside,
+        Op::Apply(_) => Turn::Outside,
     }
 }

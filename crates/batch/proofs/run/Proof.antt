@@ -4,6 +4,7 @@ use Prim.Native.Nat.{_-_}
 use native.Mathlib.Omega.{arith}
 use mathlib.Core.Path.{refl, ap, _∙_}
 use borrow.Author.Needs.{needs}
+use Rattle.lanes.specs.declared.Whose.the-variants as Whose
 use Rattle.acts.specs.Inner.{laneAt}
 use Rattle.acts.proofs.StateLaws.{judged-at}
 use Rattle.batch.proofs.BatchLaws.{Going, going-start, going-more, going-end, going-kept, entries-are}
@@ -90,7 +91,7 @@ entry-requires c κs =
     let here = loop .before .loop in
     let seen = d .lane-of2 .ensures .0 ∙ ap laneAt (d .before .named .ensures) in
     rw (← here .inv .terms)
-    (judged-at (here .t) _ _ (d .before .before .before .lane-of .ensures .0) _ refl _ _ seen refl _ (here .inv .fine))
+    (judged-at Whose.First (here .t) _ _ (d .before .before .before .lane-of .ensures .0) _ refl _ _ seen refl _ (here .inv .fine))
 
 code-of-requires : tie.Need-code-of-requires Inv-loop μ-loop
 code-of-requires c κs = search needs

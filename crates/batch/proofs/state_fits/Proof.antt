@@ -4,12 +4,13 @@ use Prim.Native.Nat.{_≤_, _-_}
 use native.Mathlib.Omega.{arith}
 use borrow.Author.Needs.{needs}
 use Rattle.lanes.specs.Scan.{Passed, passed-none, passed-more, few-lanes}
+use Rattle.lanes.specs.declared.Whose.the-variants as Whose
 use Rattle.acts.proofs.StateLaws.{loop-end}
 use Rattle.batch.proofs.state_fits.Statement.{statement}
 use Rattle.batch.proofs.state_fits.Tie as tie
 
 abbrev Inv-loop : tie.InvT-loop
-Inv-loop s z fits₀ end i₀ fits i = (i ≤ end) × Passed s i fits
+Inv-loop s z fits₀ end i₀ fits i = (i ≤ end) × Passed Whose.First s i fits
 
 abbrev μ-loop : tie.MeasureT-loop
 μ-loop s z fits₀ end i₀ fits i = end - i
@@ -45,13 +46,13 @@ loop-again : tie.Need-loop-again Inv-loop μ-loop
 loop-again c =
     let d = c .before .before .before .before in
     let s = d .before .before .before .before .args .t1 in
-    (omega arith, passed-more s _ _ _ _ (d .loop .inv .1) (c .before .lane-fits .ensures) (c .both .ensures))
+    (omega arith, passed-more Whose.First s _ _ _ _ (d .loop .inv .1) (c .before .lane-fits .ensures) (c .both .ensures))
 
 returns : tie.Need-returns Inv-loop μ-loop
 returns c =
     let d = c .before in
     let e = d .before .before in
-    loop-end (e .before .before .args .t1) _ _ _ _ (e .sizes-fit .ensures) (d .before .lanes-below .ensures .1)
+    loop-end Whose.First (e .before .before .args .t1) _ _ _ _ (e .sizes-fit .ensures) (d .before .lanes-below .ensures .1)
     (d .loop .inv .0) (c .loop-test .left) (d .loop .inv .1)
 
 pub state-fits-spec : {M : Type 1} → statement M

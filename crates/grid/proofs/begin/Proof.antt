@@ -3,6 +3,7 @@
 use mathlib.Core.Path.{refl}
 use Prim.Native.Nat.{_≤_, _-_}
 use native.Mathlib.Omega.{arith}
+use Rattle.lanes.specs.declared.Whose.the-variants as Whose
 use Rattle.lanes.specs.Scan.{Passed, passed-none, passed-more, few-lanes}
 use Rattle.acts.proofs.StateLaws.{loop-end, begun-is}
 use borrow.Author.Needs.{needs}
@@ -10,7 +11,7 @@ use Rattle.grid.proofs.begin.Statement.{statement}
 use Rattle.grid.proofs.begin.Tie as tie
 
 abbrev Inv-loop : tie.InvT-loop
-Inv-loop q a t z fits₀ end i₀ fits i = (i ≤ end) × Passed t i fits
+Inv-loop q a t z fits₀ end i₀ fits i = (i ≤ end) × Passed Whose.First t i fits
 
 abbrev μ-loop : tie.MeasureT-loop
 μ-loop q a t z fits₀ end i₀ fits i = end - i
@@ -46,7 +47,7 @@ loop-again : tie.Need-loop-again Inv-loop μ-loop
 loop-again c =
     let d = c .before .before .before .before in
     let s = d .before .before .before .before .args .s in
-    (omega arith, passed-more s _ _ _ _ (d .loop .inv .1) (c .before .lane-fits .ensures) (c .both .ensures))
+    (omega arith, passed-more Whose.First s _ _ _ _ (d .loop .inv .1) (c .before .lane-fits .ensures) (c .both .ensures))
 
 lane-of-requires : tie.Need-lane-of-requires Inv-loop μ-loop
 lane-of-requires c κs = search needs
@@ -77,7 +78,7 @@ returns c =
     let own = c .before .before .before .before .before in
     let d = own .before .before in
     let a = d .before .before .before .before .args in
-    let fine = loop-end (a .s) _ _ _ _ (d .before .before .sizes-fit .ensures) (d .before .lanes-below .ensures .1)
+    let fine = loop-end Whose.First (a .s) _ _ _ _ (d .before .before .sizes-fit .ensures) (d .before .lanes-below .ensures .1)
     (d .loop .inv .0) (own .before .loop-test .left) (d .loop .inv .1) in
     begun-is (a .s) _ _ (own .lane-of .ensures .0) _ refl _ (a .a) _ _ _ fine (c .before .before .before .cell-of .ensures) (c .before .before .op-of .ensures)
     (c .before .begun .ensures)

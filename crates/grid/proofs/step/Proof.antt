@@ -3,6 +3,7 @@
 use mathlib.Core.Path.{refl, ap, sym, _∙_}
 use Prim.Native.Nat.{_≤_, _-_}
 use native.Mathlib.Omega.{arith}
+use Rattle.lanes.specs.declared.Whose.the-variants as Whose
 use Rattle.lanes.specs.Scan.{Passed, passed-none, passed-more, few-lanes}
 use Rattle.acts.specs.Inner.{laneAt}
 use Rattle.acts.proofs.StateLaws.{loop-end, judged-at, step-is, step-kept}
@@ -11,7 +12,7 @@ use Rattle.grid.proofs.step.Statement.{statement}
 use Rattle.grid.proofs.step.Tie as tie
 
 abbrev Inv-loop : tie.InvT-loop
-Inv-loop q readings links directory pool t z fits₀ end i₀ fits i = (i ≤ end) × Passed t i fits
+Inv-loop q readings links directory pool t z fits₀ end i₀ fits i = (i ≤ end) × Passed Whose.First t i fits
 
 abbrev μ-loop : tie.MeasureT-loop
 μ-loop q readings links directory pool t z fits₀ end i₀ fits i = end - i
@@ -48,7 +49,7 @@ loop-again c =
     let d = c .before .before .before .before in
     let e = d .before .before .before .before .before in
     let s = e .before .before .before .args .s in
-    (omega arith, passed-more s _ _ _ _ (d .loop .inv .1) (c .before .lane-fits .ensures) (c .both .ensures))
+    (omega arith, passed-more Whose.First s _ _ _ _ (d .loop .inv .1) (c .before .lane-fits .ensures) (c .both .ensures))
 
 lane-of-requires : tie.Need-lane-of-requires Inv-loop μ-loop
 lane-of-requires c κs = search needs
@@ -77,10 +78,10 @@ act-requires c κs =
     let own = e .before .before .before in
     let d = own .before .before in
     let a = d .before .before .before .before .before .before .before .before .args in
-    let fine = loop-end (a .s) _ _ _ _ (d .before .before .sizes-fit .ensures) (d .before .lanes-below .ensures .1)
+    let fine = loop-end Whose.First (a .s) _ _ _ _ (d .before .before .sizes-fit .ensures) (d .before .lanes-below .ensures .1)
     (d .loop .inv .0) (own .before .loop-test .left) (d .loop .inv .1) in
     let seen = e .lane-of2 .ensures .0 ∙ ap laneAt (e .before .named .ensures) in
-    judged-at (a .s) (a .q .0) _ (own .lane-of .ensures .0) _ refl _ _ seen refl _ fine
+    judged-at Whose.First (a .s) (a .q .0) _ (own .lane-of .ensures .0) _ refl _ _ seen refl _ fine
 
 changes-requires : tie.Need-changes-requires Inv-loop μ-loop
 changes-requires c κs = search needs
@@ -116,7 +117,7 @@ returns c =
     let own = e .before .before .before in
     let d = own .before .before in
     let a = d .before .before .before .before .before .before .before .before .args in
-    let fine = loop-end (a .s) _ _ _ _ (d .before .before .sizes-fit .ensures) (d .before .lanes-below .ensures .1)
+    let fine = loop-end Whose.First (a .s) _ _ _ _ (d .before .before .sizes-fit .ensures) (d .before .lanes-below .ensures .1)
     (d .loop .inv .0) (own .before .loop-test .left) (d .loop .inv .1) in
     let seen = e .lane-of2 .ensures .0 ∙ ap laneAt (e .before .named .ensures) in
     step-is (a .s) (a .q .0) _ (own .lane-of .ensures .0) _ refl _ _ seen refl _ _ _ _ fine (b .act .ensures)
@@ -140,7 +141,7 @@ returns-2 c =
     let own = e .before .before .before in
     let d = own .before .before in
     let a = d .before .before .before .before .before .before .before .before .args in
-    let fine = loop-end (a .s) _ _ _ _ (d .before .before .sizes-fit .ensures) (d .before .lanes-below .ensures .1)
+    let fine = loop-end Whose.First (a .s) _ _ _ _ (d .before .before .sizes-fit .ensures) (d .before .lanes-below .ensures .1)
     (d .loop .inv .0) (own .before .loop-test .left) (d .loop .inv .1) in
     let seen = e .lane-of2 .ensures .0 ∙ ap laneAt (e .before .named .ensures) in
     step-kept (a .s) (a .q .0) _ (own .lane-of .ensures .0) _ refl _ _ seen refl _ _ _ _ fine (b .act .ensures)

@@ -26,6 +26,12 @@ enum-known-o-5 c = search needs
 enum-known-o-6 : tie.Need-enum-known-o-6
 enum-known-o-6 c = search needs
 
+enum-known-o-7 : tie.Need-enum-known-o-7
+enum-known-o-7 c = search needs
+
+enum-known-o-8 : tie.Need-enum-known-o-8
+enum-known-o-8 c = search needs
+
 returns : tie.Need-returns
 returns c = search (cell-arm)
 
@@ -47,6 +53,12 @@ returns-6 c = search needs
 returns-7 : tie.Need-returns-7
 returns-7 c = search needs
 
+returns-8 : tie.Need-returns-8
+returns-8 c = search needs
+
+returns-9 : tie.Need-returns-9
+returns-9 c = search needs
+
 pub cell-in-spec : {M : Type 1} → statement M
 cell-in-spec =
     tie.close
@@ -58,10 +70,14 @@ cell-in-spec =
     enum-known-o-4
     enum-known-o-5
     enum-known-o-6
+    enum-known-o-7
+    enum-known-o-8
     returns
     returns-2
     returns-3
     returns-4
     returns-5
     returns-6
-    returns-7)
+    returns-7
+    returns-8
+    returns-9)

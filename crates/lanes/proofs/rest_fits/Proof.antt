@@ -41,6 +41,15 @@ place-in-requires c κs = search needs
 place-fits-requires : tie.Need-place-fits-requires
 place-fits-requires c κs = search needs
 
+enum-known-o-5 : tie.Need-enum-known-o-5
+enum-known-o-5 c = search needs
+
+check-fits-requires-4 : tie.Need-check-fits-requires-4
+check-fits-requires-4 c κs = search needs
+
+enum-told-4 : tie.Need-enum-told-4
+enum-told-4 c = search needs
+
 returns : tie.Need-returns
 returns c = search needs
 
@@ -62,6 +71,12 @@ returns-6 c = search (rest-arm)
 returns-7 : tie.Need-returns-7
 returns-7 c = search (marking-arm)
 
+returns-8 : tie.Need-returns-8
+returns-8 c = search (rest-arm)
+
+returns-9 : tie.Need-returns-9
+returns-9 c = search needs
+
 pub rest-fits-spec : {M : Type 1} → statement M
 rest-fits-spec =
     tie.close
@@ -78,10 +93,15 @@ rest-fits-spec =
     enum-known-o-4
     place-in-requires
     place-fits-requires
+    enum-known-o-5
+    check-fits-requires-4
+    enum-told-4
     returns
     returns-2
     returns-3
     returns-4
     returns-5
     returns-6
-    returns-7)
+    returns-7
+    returns-8
+    returns-9)

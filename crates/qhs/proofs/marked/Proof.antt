@@ -1,6 +1,6 @@
 -- `qhs::marked` meets its contract.
 -- Assumes nothing.
-use Rattle.qhs.proofs.FieldLaws.{no-q, no-h, s-decides}
+use Rattle.qhs.proofs.FieldLaws.{no-q, no-h, letter-decides}
 use borrow.Author.Needs.{needs}
 use Rattle.qhs.proofs.marked.Statement.{statement}
 use Rattle.qhs.proofs.marked.Tie as tie
@@ -21,7 +21,7 @@ shared-slice-read-result : tie.Need-shared-slice-read-result
 shared-slice-read-result c = search needs
 
 returns-3 : tie.Need-returns-3
-returns-3 c = search (s-decides)
+returns-3 c = search (letter-decides)
 
 pub marked-spec : {M : Type 1} → statement M
 marked-spec =

@@ -3,13 +3,14 @@
 use Prim.Native.Nat.{_≤_, _-_}
 use native.Mathlib.Omega.{arith}
 use borrow.Author.Needs.{needs}
+use Rattle.lanes.specs.declared.Whose.the-variants as Whose
 use Rattle.lanes.specs.Scan.{Passed, passed-none, passed-more, few-lanes}
 use Rattle.quiet.proofs.QuietLaws.{Calm, calm-none, calm-more, is-unfit, is-at-rest, is-at-work}
 use Rattle.quiet.proofs.scan_of.Statement.{statement}
 use Rattle.quiet.proofs.scan_of.Tie as tie
 
 abbrev Inv-loop : tie.InvT-loop
-Inv-loop s z fits₀ end calm₀ i₀ fits calm i = (i ≤ end) × Passed s i fits × Calm s i calm
+Inv-loop s z fits₀ end calm₀ i₀ fits calm i = (i ≤ end) × Passed Whose.Either s i fits × Calm s i calm
 
 abbrev μ-loop : tie.MeasureT-loop
 μ-loop s z fits₀ end calm₀ i₀ fits calm i = end - i
@@ -52,7 +53,7 @@ loop-again c =
     let d = c .before .before .before .before .before .before in
     let s = d .before .before .before .before .args .t1 in (
       omega arith,
-      passed-more s _ _ _ _ (d .loop .inv .1) (c .before .before .before .lane-fits .ensures) (c .before .before .both .ensures),
+      passed-more Whose.Either s _ _ _ _ (d .loop .inv .1) (c .before .before .before .lane-fits .ensures) (c .before .before .both .ensures),
       calm-more s _ _ _ _ (d .loop .inv .2) (c .before .idle .ensures) (c .both2 .ensures),
     )
 

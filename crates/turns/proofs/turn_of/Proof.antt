@@ -53,6 +53,12 @@ enum-known-o-6 c = search needs
 marking-turn-requires : tie.Need-marking-turn-requires
 marking-turn-requires c κs = search (marking-fits)
 
+enum-told-2 : tie.Need-enum-told-2
+enum-told-2 c = search needs
+
+enum-told-3 : tie.Need-enum-told-3
+enum-told-3 c = search needs
+
 returns : tie.Need-returns
 returns c = search (op-arm)
 
@@ -74,6 +80,12 @@ returns-6 c = search (op-write)
 returns-7 : tie.Need-returns-7
 returns-7 c = search (op-arm)
 
+returns-8 : tie.Need-returns-8
+returns-8 c = search (op-arm)
+
+returns-9 : tie.Need-returns-9
+returns-9 c = search (op-arm)
+
 pub turn-of-spec : {M : Type 1} → statement M
 turn-of-spec =
     tie.close
@@ -94,10 +106,14 @@ turn-of-spec =
     checked-turn-requires
     enum-known-o-6
     marking-turn-requires
+    enum-told-2
+    enum-told-3
     returns
     returns-2
     returns-3
     returns-4
     returns-5
     returns-6
-    returns-7)
+    returns-7
+    returns-8
+    returns-9)

@@ -1,6 +1,6 @@
 -- `steps::store::store` meets its contract.
 -- Assumes nothing.
-use Rattle.steps.proofs.StoreLaws.{stored-arm, stored-reading, stored-link, stored-directory, stored-mark}
+use Rattle.steps.proofs.StoreLaws.{stored-arm, stored-reading, stored-link, stored-directory, stored-both, stored-mark}
 use borrow.Author.Needs.{needs}
 use Rattle.steps.proofs.store.store.Statement.{statement}
 use Rattle.steps.proofs.store.store.Tie as tie
@@ -28,6 +28,15 @@ put-requires-2 c κs = search needs
 
 enum-known-change-4 : tie.Need-enum-known-change-4
 enum-known-change-4 c = search needs
+
+put-requires-3 : tie.Need-put-requires-3
+put-requires-3 c κs = search needs
+
+put-wide-requires-2 : tie.Need-put-wide-requires-2
+put-wide-requires-2 c κs = search needs
+
+enum-known-change-5 : tie.Need-enum-known-change-5
+enum-known-change-5 c = search needs
 
 put-mark-requires : tie.Need-put-mark-requires
 put-mark-requires c κs = search needs
@@ -62,14 +71,23 @@ returns-4 c = search (stored-directory)
 same-length-4 : tie.Need-same-length-4
 same-length-4 c = search needs
 
+same-length-5 : tie.Need-same-length-5
+same-length-5 c = search needs
+
 returns-5 : tie.Need-returns-5
-returns-5 c = search (stored-mark)
+returns-5 c = search (stored-both)
+
+same-length-6 : tie.Need-same-length-6
+same-length-6 c = search needs
 
 returns-6 : tie.Need-returns-6
-returns-6 c = search (stored-arm)
+returns-6 c = search (stored-mark)
 
 returns-7 : tie.Need-returns-7
 returns-7 c = search (stored-arm)
+
+returns-8 : tie.Need-returns-8
+returns-8 c = search (stored-arm)
 
 pub store-spec : {M : Type 1} → statement M
 store-spec =
@@ -83,6 +101,9 @@ store-spec =
     enum-known-change-3
     put-requires-2
     enum-known-change-4
+    put-requires-3
+    put-wide-requires-2
+    enum-known-change-5
     put-mark-requires
     enum-told-2
     enum-told-3
@@ -94,6 +115,9 @@ store-spec =
     same-length-3
     returns-4
     same-length-4
+    same-length-5
     returns-5
+    same-length-6
     returns-6
-    returns-7)
+    returns-7
+    returns-8)

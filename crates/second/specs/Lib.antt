@@ -1,0 +1,5 @@
+pub mod List
+pub mod Calls
+pub mod Touched
+pub mod Inner
+pub mod Worlds
