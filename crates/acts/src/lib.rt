@@ -1,4 +1,5 @@
 // The calls: what open, begin and step determine; open's refusals, and a begin on one lane.
+#![tactic(auto)]
 pub mod begins;
 pub mod opens;
 
@@ -8,7 +9,7 @@ use refusals::Refusal;
 use steps::{Change, Next};
 
 // What an operation is to be.
-#[derive(Drop)]
+#[derive(Clone, Copy)]
 pub enum Ask {
     Read(Cell),
     Write(Cell, u32),
@@ -16,7 +17,7 @@ pub enum Ask {
 }
 
 // What a call answers. A finished operation says how many of its own steps it took.
-#[derive(Drop)]
+#[derive(Clone, Copy)]
 pub enum Answer {
     Begun,
     Going,
@@ -28,28 +29,28 @@ pub enum Answer {
 }
 
 // A state, and what was answered.
-#[derive(Drop)]
+#[derive(Clone, Copy)]
 pub struct Stepped {
     pub state: State,
     pub answer: Answer,
 }
 
 // Whether a grid was opened.
-#[derive(Drop)]
+#[derive(Clone, Copy)]
 pub enum Opening {
     Open,
     Refused(Refusal),
 }
 
 // The grid's state; where it was refused, the closed state, which every call refuses.
-#[derive(Drop)]
+#[derive(Clone, Copy)]
 pub struct Opened {
     pub state: State,
     pub opening: Opening,
 }
 
 // What a call makes of a lane and of the pool's top, and what it answers.
-#[derive(Drop)]
+#[derive(Clone, Copy)]
 pub struct Acted {
     pub lane: Lane,
     pub top: u32,
@@ -57,7 +58,7 @@ pub struct Acted {
 }
 
 // What a step comes to.
-#[derive(Drop)]
+#[derive(Clone, Copy)]
 pub enum Verdict {
     Refused(Refusal),
     Moved(Change, Next),

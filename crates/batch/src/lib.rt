@@ -1,4 +1,5 @@
 // Many begins and steps in one call: the state stays in one local, and is looked at once.
+#![tactic(auto)]
 ghost use Rattle.std.specs.Prelude.{◌≡◌, ◌<◌};
 ghost use Rattle.lanes.specs.Ranges.{state_fits};
 ghost use Rattle.steps.specs.Memory.{memory};

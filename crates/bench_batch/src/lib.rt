@@ -1,4 +1,5 @@
 // For the benchmark's C program: a list of begins and steps, through the batch call.
+#![tactic(auto)]
 
 use numbers::{Mark, Terms};
 

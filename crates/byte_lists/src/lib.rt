@@ -1,4 +1,5 @@
 // Bytes in lists and buffers: numbers at a width, decimal numbers, bytes put into a lent buffer.
+#![tactic(auto)]
 ghost use Rattle.std.specs.Prelude.{◌≡◌, ◌+◌, ◌≤◌, length};
 ghost use Rattle.byte_lists.specs.Bytes.{decimal, placed, end_of, put_of};
 ghost use Rattle.byte_lists.specs.Lines.{room, so_far};
@@ -8,7 +9,7 @@ pub mod line;
 use line::Line;
 
 // Where the bytes end that were put; or there was no room for all of them, and nothing was written.
-#[derive(Drop)]
+#[derive(Clone, Copy)]
 pub enum Put {
     NoRoom,
     End(usize),

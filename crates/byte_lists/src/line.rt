@@ -6,7 +6,7 @@ ghost use Rattle.byte_lists.specs.Lines.{room, Grown, Made};
 pub const ROOM: usize = 64;
 
 // The first `len` bytes are the line; what goes past its room is cut off.
-#[derive(Drop)]
+#[derive(Clone, Copy)]
 pub struct Line {
     pub bytes: [u8; ROOM],
     pub len: usize,

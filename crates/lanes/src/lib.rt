@@ -1,11 +1,12 @@
 // The state of a grid: its lanes, the operation under way in each, and the range of every number.
+#![tactic(auto)]
 ghost use Rattle.std.specs.Prelude.{◌≡◌};
 ghost use Rattle.lanes.specs.Ranges.{idle, cell_in, place_in, place_fits, link_fits, check_fits, rest_fits, lane_fits, sizes_fit};
 
 use numbers::{Cell, LANES, Place, SEGMENTS, STEPS, Terms};
 
 // Where the check of a cell stands: the word that it reads next, and what it has read.
-#[derive(Drop)]
+#[derive(Clone, Copy)]
 pub enum Check {
     // (a) its link
     Link,
@@ -19,7 +20,7 @@ pub enum Check {
 
 // Where the marking of a cell stands, rules 3 to 8. The word is the link that (a) read; a bool says whether the tombstone is
 // already stored.
-#[derive(Drop)]
+#[derive(Clone, Copy)]
 pub enum Marking {
     // 3. the pool's top, then the directory
     Draw(bool, u64, Place),
@@ -37,7 +38,7 @@ pub enum Marking {
 }
 
 // The operation under way, if any, at its stage.
-#[derive(Drop)]
+#[derive(Clone, Copy)]
 pub enum Op {
     Idle,
     // a read: its check, and the reading once that has shown the cell written
@@ -50,7 +51,7 @@ pub enum Op {
     Marking(Cell, Marking),
 }
 
-#[derive(Drop)]
+#[derive(Clone, Copy)]
 pub struct Lane {
     pub marks: u32,
     pub drawn: u8,
@@ -59,7 +60,7 @@ pub struct Lane {
 }
 
 // What the grid was opened with, the pool's top and the lanes.
-#[derive(Drop)]
+#[derive(Clone, Copy)]
 pub struct State {
     pub terms: Terms,
     pub top: u32,

@@ -1,23 +1,24 @@
 // The numbers of the grid: cells, places and processes, segments, links and the filling rule.
+#![tactic(auto)]
 ghost use Rattle.std.specs.Prelude.{◌≡◌, ◌%◌, min};
 ghost use Rattle.numbers.specs.Numbers.{most_marks, directory_words, directory_word, pool_words, segment_of, offset_of, size_of};
 ghost use Rattle.numbers.specs.Numbers.{link_of, process_of, place_of, product_of, fill_of};
 ghost use Rattle.numbers.specs.Cells.{one_to, processes_fit, cells_fit, cell_fits, mark_of, index_of, fill_at};
 
 // A cell's number.
-#[derive(Drop)]
+#[derive(Clone, Copy)]
 pub struct Cell(pub u32);
 
 // A place in a lane; a link may name any place of 50 bits, whether or not the lane has it.
-#[derive(Drop)]
+#[derive(Clone, Copy)]
 pub struct Place(pub u64);
 
 // A process's number.
-#[derive(Drop)]
+#[derive(Clone, Copy)]
 pub struct Process(pub u32);
 
 // What a grid is opened with: its processes, its cells, and the filling rule.
-#[derive(Drop)]
+#[derive(Clone, Copy)]
 pub struct Terms {
     pub p: u32,
     pub m: u32,

@@ -1,4 +1,5 @@
 // The planners' program: one schedule file from standard input, the text of the grid that it leaves to standard output.
+#![tactic(auto)]
 use byte_lists::Put;
 use libc::{STDIN_FILENO, STDOUT_FILENO};
 use play::CELL_WORDS;

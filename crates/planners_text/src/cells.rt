@@ -10,7 +10,7 @@ use numbers::{Cell, Mark};
 use quiet::Quarter;
 
 // The whole text's length, or that a word of some cell's check lies outside.
-#[derive(Drop)]
+#[derive(Clone, Copy)]
 pub enum Measured {
     Outside,
     Bytes(usize),

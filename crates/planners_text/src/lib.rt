@@ -1,4 +1,5 @@
 // A grid at rest as RFC 4180 text in a lent buffer, for a spreadsheet.
+#![tactic(auto)]
 ghost use Rattle.std.specs.Prelude.{◌≡◌, length};
 ghost use Rattle.steps.specs.Memory.{memory};
 ghost use Rattle.planners_text.specs.PlannersText.{text_of, page, put_text, write_of};
@@ -12,7 +13,7 @@ use numbers::Mark;
 use refusals::Refusal;
 
 // How many bytes were written, or why none was.
-#[derive(Drop)]
+#[derive(Clone, Copy)]
 pub enum Wrote {
     Bytes(usize),
     Refused(Refusal),

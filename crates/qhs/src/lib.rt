@@ -1,4 +1,5 @@
 // The schedule file: its header and its records, or the refusal.
+#![tactic(auto)]
 ghost use Rattle.std.specs.Prelude.{◌≡◌, ◌≤◌, length};
 ghost use Rattle.logic.specs.Below.{below};
 ghost use Rattle.qhs.specs.Qhs.{marked, header_of, terms_of, record_at, kind_fits, counts_as, read_in, read_of};
@@ -10,7 +11,7 @@ use numbers::Terms;
 use refusals::Refusal;
 
 // Where the files of a version have their parts: lengths, places and widths in bytes.
-#[derive(Drop)]
+#[derive(Clone, Copy)]
 pub struct Layout {
     pub version: u64,
     // The header's length, and how far a record starts after the one before.
@@ -38,7 +39,7 @@ pub const VERSION_1: Layout = Layout {
 };
 
 // What the header says.
-#[derive(Drop)]
+#[derive(Clone, Copy)]
 pub struct Header {
     pub p: u32,
     pub m: u32,
@@ -48,7 +49,7 @@ pub struct Header {
 }
 
 // A record's fields, as the file has them.
-#[derive(Drop)]
+#[derive(Clone, Copy)]
 pub struct Record {
     pub kind: u8,
     pub process: u8,
@@ -57,14 +58,14 @@ pub struct Record {
 }
 
 // What a file is: refused, or a schedule of so many records.
-#[derive(Drop)]
+#[derive(Clone, Copy)]
 pub enum Reading {
     Refused(Refusal),
     Schedule(Header, usize),
 }
 
 // What open says to p and m alone.
-#[derive(Drop)]
+#[derive(Clone, Copy)]
 pub enum Counts {
     Refused(Refusal),
     Fit,

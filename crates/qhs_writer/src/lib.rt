@@ -1,4 +1,5 @@
 // The schedule file's writer, version 1: a header and records as bytes in a lent buffer, or the refusal.
+#![tactic(auto)]
 ghost use Rattle.std.specs.Prelude.{◌≡◌, ◌≤◌, length};
 ghost use Rattle.logic.specs.Below.{below};
 ghost use Rattle.qhs_writer.specs.Writer.{fields, count, known, page, write_of};
@@ -10,7 +11,7 @@ use qhs::{Counts, FILE_CELLS, FILE_RECORDS, Header, LAST_KIND, VERSION_1};
 use refusals::Refusal;
 
 // A record as it is written. Its cell has 16 bits, whatever the reader's has.
-#[derive(Drop)]
+#[derive(Clone, Copy)]
 pub struct Entry {
     pub kind: u8,
     pub process: u8,
@@ -19,7 +20,7 @@ pub struct Entry {
 }
 
 // How many bytes were written, or why none was.
-#[derive(Drop)]
+#[derive(Clone, Copy)]
 pub enum Wrote {
     Bytes(usize),
     Refused(Refusal),

@@ -1,4 +1,5 @@
 // A grid at rest: whether no operation is under way, and what each cell then holds.
+#![tactic(auto)]
 ghost use Rattle.std.specs.Prelude.{◌≡◌};
 ghost use Rattle.steps.specs.Memory.{memory};
 ghost use Rattle.acts.specs.Inner.{named_in};
@@ -10,7 +11,7 @@ use numbers::{Cell, Mark, PROCESSES};
 use steps::{Found, Next};
 
 // What a look at all the lanes shows.
-#[derive(Drop)]
+#[derive(Clone, Copy)]
 pub enum Scan {
     // A number of the state is out of range.
     Unfit,
@@ -20,7 +21,7 @@ pub enum Scan {
 }
 
 // What is read of a cell.
-#[derive(Drop)]
+#[derive(Clone, Copy)]
 pub enum Quarter {
     // A word of its check lies outside its memory.
     Outside,

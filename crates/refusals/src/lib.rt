@@ -1,8 +1,9 @@
 // The refusals of the table, each by its name.
+#![tactic(auto)]
 ghost use Rattle.std.specs.Prelude.{◌≡◌};
 ghost use Rattle.refusals.specs.Numbers.{number_of, refusal_of, Numbered};
 
-#[derive(Drop)]
+#[derive(Clone, Copy)]
 pub enum Refusal {
     // Open: p is 0 or over the most.
     ProcessCount,

@@ -1,4 +1,5 @@
 // The rewriting program: one schedule file from standard input, the same file to standard output with the ignored fields put to zero.
+#![tactic(auto)]
 mod again;
 
 use byte_lists::Put;

@@ -1,4 +1,5 @@
 // The schedule program: one file from standard input, its output to standard output.
+#![tactic(auto)]
 use byte_lists::Put;
 use libc::{STDIN_FILENO, STDOUT_FILENO};
 

@@ -1,4 +1,5 @@
 // The step list: its definitions, what a step reads and where it stores.
+#![tactic(auto)]
 ghost use Rattle.std.specs.Prelude.{◌≡◌};
 ghost use Rattle.steps.specs.Steps.{not_written_read, written_read};
 
@@ -9,14 +10,14 @@ use lanes::{Check, Op};
 use numbers::{Cell, Mark, Place, Terms};
 
 // A word of the pool, or that it lies outside.
-#[derive(Drop)]
+#[derive(Clone, Copy)]
 pub enum Got {
     Outside,
     Word(Mark),
 }
 
 // What a step of a check shows.
-#[derive(Drop)]
+#[derive(Clone, Copy)]
 pub enum Found {
     // The mark's word lies outside the pool.
     Outside,
@@ -26,7 +27,7 @@ pub enum Found {
 }
 
 // The one shared word that a step changes.
-#[derive(Drop)]
+#[derive(Clone, Copy)]
 pub enum Change {
     Nothing,
     // the reading, the link, the directory word at an index
@@ -42,7 +43,7 @@ pub enum Change {
 }
 
 // The shared words: the lent words by their index, each lane's marks in force, and the pool's top.
-#[derive(Drop)]
+#[derive(Clone, Copy)]
 pub enum Word {
     Reading(usize),
     Link(usize),
@@ -53,7 +54,7 @@ pub enum Word {
 }
 
 // The operation's next stage, or its answer.
-#[derive(Drop)]
+#[derive(Clone, Copy)]
 pub enum Next {
     Going(Op),
     // the value, and whether the cell is written
@@ -63,7 +64,7 @@ pub enum Next {
 }
 
 // What one step does.
-#[derive(Drop)]
+#[derive(Clone, Copy)]
 pub enum Turn {
     // The word to be touched lies outside its memory.
     Outside,

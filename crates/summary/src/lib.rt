@@ -1,4 +1,5 @@
 // The hour summary: peak and mean of the written quarters of an hour, and how many they are, on a grid at rest.
+#![tactic(auto)]
 ghost use Rattle.std.specs.Prelude.{◌≡◌, ◌+◌, ◌/◌, ◌<◌};
 ghost use Rattle.steps.specs.Memory.{memory};
 ghost use Rattle.quiet.specs.declared.Quarter.TheVariants as Quarter;
@@ -11,7 +12,7 @@ use numbers::{Cell, Mark};
 use quiet::Quarter;
 use refusals::Refusal;
 
-#[derive(Drop)]
+#[derive(Clone, Copy)]
 pub struct Hour {
     pub peak: u32,
     pub mean: u32,
@@ -19,14 +20,14 @@ pub struct Hour {
     pub count: u32,
 }
 
-#[derive(Drop)]
+#[derive(Clone, Copy)]
 pub enum Summary {
     Of(Hour),
     Refused(Refusal),
 }
 
 // What is kept of the written quarters. The sum of four readings needs 34 bits.
-#[derive(Drop)]
+#[derive(Clone, Copy)]
 struct Tally {
     count: u32,
     sum: u64,

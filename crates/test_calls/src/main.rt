@@ -1,4 +1,5 @@
 // Reads call vectors from standard input, makes each call, and writes what it gave back.
+#![tactic(auto)]
 mod make;
 mod page;
 mod run;

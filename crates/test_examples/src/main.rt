@@ -1,4 +1,5 @@
 // The starred examples, run on the grid: what each says, and the shared word that each step touches.
+#![tactic(auto)]
 mod touch;
 
 use acts::{Answer, Ask, Stepped};

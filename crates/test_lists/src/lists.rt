@@ -11,7 +11,7 @@ pub const LIST: usize = 8192;
 pub const LAST: usize = 65544;
 
 // The lists, as the vector has them.
-#[derive(Drop)]
+#[derive(Clone, Copy)]
 pub struct Lists {
     pub kinds: Lent,
     pub processes: Lent,
@@ -20,7 +20,7 @@ pub struct Lists {
     pub last: Lent,
 }
 
-#[derive(Drop)]
+#[derive(Clone, Copy)]
 pub enum Listed {
     Damaged(Fault),
     Lists(Lists),

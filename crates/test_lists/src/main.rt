@@ -1,4 +1,5 @@
 // Reads vectors of the calls on lists from standard input, makes each call, and writes what it gave back.
+#![tactic(auto)]
 mod lists;
 mod make;
 mod run;

@@ -5,7 +5,7 @@ use super::vector::Fault;
 use numbers::Mark;
 
 // The four memories, as the vector has them.
-#[derive(Drop)]
+#[derive(Clone, Copy)]
 pub struct Memories {
     pub readings: Lent,
     pub links: Lent,
@@ -13,14 +13,14 @@ pub struct Memories {
     pub pool: Lent,
 }
 
-#[derive(Drop)]
+#[derive(Clone, Copy)]
 pub enum Filled {
     Damaged(Fault),
     Memories(Memories),
 }
 
 // Two memories, one after the other.
-#[derive(Drop)]
+#[derive(Clone, Copy)]
 pub struct Pair {
     pub first: Lending,
     pub second: Lending,

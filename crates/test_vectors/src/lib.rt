@@ -1,4 +1,5 @@
 // Call vectors, for the programs that make them: read from the input, and shown after the call.
+#![tactic(auto)]
 
 pub mod four;
 pub mod input;

@@ -5,7 +5,7 @@ use super::words::low32;
 use super::{vector, words};
 
 // A memory's length, its fill, its exceptions, and the first word after them.
-#[derive(Drop)]
+#[derive(Clone, Copy)]
 pub struct Lent {
     pub len: usize,
     pub fill: u64,
@@ -13,7 +13,7 @@ pub struct Lent {
     pub next: usize,
 }
 
-#[derive(Drop)]
+#[derive(Clone, Copy)]
 pub enum Lending {
     Damaged(Fault),
     Lent(Lent),

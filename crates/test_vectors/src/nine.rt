@@ -5,7 +5,7 @@ use super::words::{low8, low32};
 use lanes::{Check, Lane, Marking, Op};
 use numbers::{Cell, Place};
 
-#[derive(Drop)]
+#[derive(Clone, Copy)]
 pub struct Nine {
     pub marks: u64,
     pub drawn: u64,

@@ -9,7 +9,7 @@ use refusals::Refusal;
 use summary::Hour;
 
 // What a call answers, of whatever kind it is.
-#[derive(Drop)]
+#[derive(Clone, Copy)]
 pub enum Said {
     Opened,
     Told(Answer),
@@ -21,7 +21,7 @@ pub enum Said {
 }
 
 // The state after a call, and what was answered.
-#[derive(Drop)]
+#[derive(Clone, Copy)]
 pub struct Made {
     pub state: State,
     pub said: Said,

@@ -9,7 +9,7 @@ use lanes::{Lane, Op, State};
 use numbers::{LANES, Terms};
 
 // Why a vector is damaged.
-#[derive(Drop)]
+#[derive(Clone, Copy)]
 pub enum Fault {
     // the input ends inside it
     Cut,
@@ -26,7 +26,7 @@ pub enum Fault {
 }
 
 // What a look at some words shows.
-#[derive(Drop)]
+#[derive(Clone, Copy)]
 pub enum Seen {
     Fine,
     Damaged(Fault),

@@ -5,7 +5,7 @@ use super::out;
 use super::vector::Fault;
 
 // The word after it and the end of the output, or why it is damaged.
-#[derive(Drop)]
+#[derive(Clone, Copy)]
 pub enum Went {
     On(usize, usize),
     Damaged(Fault),
@@ -31,7 +31,7 @@ fn stopped(buf: &mut [u8], at: usize, k: u64, f: Fault) -> usize {
 }
 
 // Where the next vector stands, and where the output ends.
-#[derive(Drop)]
+#[derive(Clone, Copy)]
 pub struct Place {
     pub base: usize,
     pub at: usize,
