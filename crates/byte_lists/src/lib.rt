@@ -1,5 +1,6 @@
 // Bytes in lists and buffers: numbers at a width, decimal numbers, bytes put into a lent buffer.
 #![tactic(auto)]
+
 ghost use Rattle.std.specs.Prelude.{◌≡◌, ◌+◌, ◌≤◌, length};
 ghost use Rattle.byte_lists.specs.Bytes.{decimal, placed, end_of, put_of};
 ghost use Rattle.byte_lists.specs.Lines.{room, so_far};

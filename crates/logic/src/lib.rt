@@ -1,5 +1,6 @@
 // Tests: one of two by a test, both of two, and a test at every number below a bound.
 #![tactic(auto)]
+
 ghost use Rattle.std.specs.Prelude.{◌≡◌, ◌&&◌};
 
 pub fn both(a: bool, b: bool) -> bool

@@ -1,5 +1,6 @@
 // The numbers of the grid: cells, places and processes, segments, links and the filling rule.
 #![tactic(auto)]
+
 ghost use Rattle.std.specs.Prelude.{◌≡◌, ◌%◌, min};
 ghost use Rattle.numbers.specs.Numbers.{most_marks, directory_words, directory_word, pool_words, segment_of, offset_of, size_of};
 ghost use Rattle.numbers.specs.Numbers.{link_of, process_of, place_of, product_of, fill_of};

@@ -1,5 +1,6 @@
 // The refusals of the table, each by its name.
 #![tactic(auto)]
+
 ghost use Rattle.std.specs.Prelude.{◌≡◌};
 ghost use Rattle.refusals.specs.Numbers.{number_of, refusal_of, Numbered};
 

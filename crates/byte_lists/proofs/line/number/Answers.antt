@@ -1,0 +1,10 @@
+use native.Mathlib.Omega.{arith}
+use borrow.Author.Rules.{rules}
+use Rattle.byte_lists.proofs.LineLaws.{Left, left_start, left_next, left_room, left_last}
+use Rattle.byte_lists.proofs.line.number.Goals as goal
+
+pub loop-rest-preserved : goal.loop-rest-preserved
+loop-rest-preserved c = search (left_next)
+
+pub returns : goal.returns
+returns c = search (left_last)

@@ -1,0 +1,6 @@
+use Rattle.byte_lists.proofs.MadeLaws.{put_number}
+use borrow.Author.Rules.{rules}
+use Rattle.byte_lists.proofs.put_decimal.Goals as goal
+
+pub returns : goal.returns
+returns c = search (put_number)
