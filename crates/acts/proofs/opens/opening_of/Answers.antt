@@ -1,0 +1,15 @@
+use Rattle.acts.proofs.OpenLaws.{no_processes, no_cells, lengths_right, lengths_wrong}
+use borrow.Author.Rules.{rules}
+use Rattle.acts.proofs.opens.opening_of.Goals as goal
+
+pub returns-then-not-processes_fit : goal.returns-then-not-processes_fit
+returns-then-not-processes_fit c = search (no_processes)
+
+pub returns-then-not-cells_fit : goal.returns-then-not-cells_fit
+returns-then-not-cells_fit c = search (no_cells)
+
+pub returns-then-lengths_fit : goal.returns-then-lengths_fit
+returns-then-lengths_fit c = search (lengths_right)
+
+pub returns-else-lengths_fit : goal.returns-else-lengths_fit
+returns-else-lengths_fit c = search (lengths_wrong)

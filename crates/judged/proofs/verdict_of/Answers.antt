@@ -1,0 +1,26 @@
+use Rattle.judged.proofs.ActLaws.{judged_9, judged_8, judged_4, judged_7, judged_on, sizes_known, lane_known, told_known}
+use borrow.Author.Rules.{rules}
+use Rattle.judged.proofs.verdict_of.Goals as goal
+
+pub returns-then-not-fits : goal.returns-then-not-fits
+returns-then-not-fits c = search (judged_9)
+
+pub returns-then-not-lengths_fit : goal.returns-then-not-lengths_fit
+returns-then-not-lengths_fit c = search (judged_8)
+
+pub returns-then-z-q : goal.returns-then-z-q
+returns-then-z-q c = search (judged_4)
+
+pub returns-then-idle : goal.returns-then-idle
+returns-then-idle c = search (judged_7)
+
+pub decided-requires : goal.decided-requires
+decided-requires c = let low = c.before.before.before in
+    let lent = low.before.before.before.before.before in
+    let top = lent.before.before.before.before.before in
+    let a = top.args in
+    told_known _ _ _ _ _ _ top.requires lent.if1.false a.readings.now a.links.now a.directory.now a.pool.now _ low.if3.false
+    c.turn_of-t.ensures
+
+pub returns : goal.returns
+returns c = search (judged_on)

@@ -1,0 +1,16 @@
+use Rattle.qhs.proofs.FieldLaws.{Gathered, gathered_none, room, gathered_next, gathered_all, gathered_below}
+use native.Mathlib.Omega.{arith}
+use borrow.Author.Rules.{rules}
+use Rattle.qhs.proofs.fields.number_at.Goals as goal
+
+pub loop-i-init : goal.loop-i-init
+loop-i-init c = gathered_none _ _ _
+
+pub overflow_mul-n : goal.overflow_mul-n
+overflow_mul-n c = omega (arith, room _ _ _ _ _ c.loop-i.invariant (search rules) (search rules))
+
+pub overflow_add-n : goal.overflow_add-n
+overflow_add-n c = omega (arith, room _ _ _ _ _ c.loop-i.invariant (search rules) (search rules))
+
+pub loop-i-preserved : goal.loop-i-preserved
+loop-i-preserved c = search (gathered_next)

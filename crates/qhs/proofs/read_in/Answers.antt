@@ -1,0 +1,21 @@
+use Rattle.qhs.proofs.ReadLaws.{too_long, too_short, unmarked, other_version, many_cells, left_to_records}
+use borrow.Author.Rules.{rules}
+use Rattle.qhs.proofs.read_in.Goals as goal
+
+pub returns-then-bytes-gt-FILE_BYTES : goal.returns-then-bytes-gt-FILE_BYTES
+returns-then-bytes-gt-FILE_BYTES c = search (too_long)
+
+pub returns-then-bytes-l : goal.returns-then-bytes-l
+returns-then-bytes-l c = search (too_short)
+
+pub returns-then-not-marked : goal.returns-then-not-marked
+returns-then-not-marked c = search (unmarked)
+
+pub returns-then-number_at-l : goal.returns-then-number_at-l
+returns-then-number_at-l c = search (other_version)
+
+pub returns-then-h-gt-FILE_CELLS : goal.returns-then-h-gt-FILE_CELLS
+returns-then-h-gt-FILE_CELLS c = search (many_cells)
+
+pub returns : goal.returns
+returns c = search (left_to_records)

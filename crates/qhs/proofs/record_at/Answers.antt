@@ -1,0 +1,7 @@
+use Rattle.qhs.specs.Qhs.{version1}
+use Rattle.qhs.proofs.FieldLaws.{record_there}
+use borrow.Author.Rules.{rules}
+use Rattle.qhs.proofs.record_at.Goals as goal
+
+pub returns : goal.returns
+returns c = search (record_there version1)

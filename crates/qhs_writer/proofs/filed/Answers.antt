@@ -1,0 +1,9 @@
+use Rattle.qhs_writer.proofs.WriteLaws.{no_room, written}
+use borrow.Author.Rules.{rules}
+use Rattle.qhs_writer.proofs.filed.Goals as goal
+
+pub returns-then-out-n : goal.returns-then-out-n
+returns-then-out-n c = search (no_room)
+
+pub returns : goal.returns
+returns c = search (written)

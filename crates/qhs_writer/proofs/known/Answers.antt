@@ -1,0 +1,13 @@
+use Prim.Native.Nat.{◌≤◌, ◌-◌}
+use Rattle.qhs_writer.proofs.WriteLaws.{Known, known_none, known_next, known_not, known_all}
+use native.Mathlib.Omega.{arith}
+use Rattle.qhs_writer.proofs.known.Goals as goal
+
+pub loop-k-init : goal.loop-k-init
+loop-k-init c = (omega arith, search (known_none))
+
+pub returns-then-kinds-k-gt-LAST_KIND : goal.returns-then-kinds-k-gt-LAST_KIND
+returns-then-kinds-k-gt-LAST_KIND c = search (known_not)
+
+pub loop-k-preserved : goal.loop-k-preserved
+loop-k-preserved c = (omega arith, search (known_next))

@@ -1,0 +1,10 @@
+use Prim.Native.Nat.{◌≤◌, ◌-◌}
+use Rattle.qhs_writer.proofs.WriteLaws.{Known, known_none, known_next, known_not, known_all}
+use native.Mathlib.Omega.{arith}
+use Rattle.qhs_writer.proofs.known.Given as goal
+
+abbrev pub invariant-loop-k : goal.invariant-loop-k
+invariant-loop-k l = (l.k ≤ l.n) × Known l.kinds l.k
+
+abbrev pub decreases-loop-k : goal.decreases-loop-k
+decreases-loop-k l = l.n - l.k

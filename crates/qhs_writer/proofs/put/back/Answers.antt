@@ -1,0 +1,6 @@
+use Rattle.qhs_writer.proofs.LaidLaws.{back_laid}
+use borrow.Author.Rules.{rules}
+use Rattle.qhs_writer.proofs.put.back.Goals as goal
+
+pub returns : goal.returns
+returns c = search (back_laid)

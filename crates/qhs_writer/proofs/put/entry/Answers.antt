@@ -1,0 +1,6 @@
+use Rattle.qhs_writer.proofs.LaidLaws.{entry_laid}
+use borrow.Author.Rules.{rules}
+use Rattle.qhs_writer.proofs.put.entry.Goals as goal
+
+pub returns : goal.returns
+returns c = search (entry_laid)

@@ -1,0 +1,6 @@
+use Rattle.qhs_writer.proofs.LaidLaws.{front_laid}
+use borrow.Author.Rules.{rules}
+use Rattle.qhs_writer.proofs.put.front.Goals as goal
+
+pub returns : goal.returns
+returns c = search (front_laid)

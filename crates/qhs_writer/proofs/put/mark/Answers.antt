@@ -1,0 +1,6 @@
+use Rattle.qhs_writer.proofs.LaidLaws.{mark_laid}
+use borrow.Author.Rules.{rules}
+use Rattle.qhs_writer.proofs.put.mark.Goals as goal
+
+pub returns : goal.returns
+returns c = search (mark_laid)

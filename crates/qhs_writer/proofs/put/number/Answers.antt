@@ -1,0 +1,11 @@
+use Prim.Native.Nat.{◌-◌}
+use Rattle.qhs_writer.proofs.LaidLaws.{Numbered, numbered_none, numbered_next, numbered_all}
+use native.Mathlib.Omega.{arith}
+use borrow.Author.Rules.{rules}
+use Rattle.qhs_writer.proofs.put.number.Goals as goal
+
+pub loop-i-init : goal.loop-i-init
+loop-i-init c = search (numbered_none)
+
+pub loop-i-preserved : goal.loop-i-preserved
+loop-i-preserved c = search (numbered_next)

@@ -1,0 +1,11 @@
+use Prim.Native.Nat.{◌-◌}
+use Rattle.qhs_writer.proofs.LaidLaws.{Numbered, numbered_none, numbered_next, numbered_all}
+use native.Mathlib.Omega.{arith}
+use borrow.Author.Rules.{rules}
+use Rattle.qhs_writer.proofs.put.number.Given as goal
+
+abbrev pub invariant-loop-i : goal.invariant-loop-i
+invariant-loop-i l = Numbered l.initial.out l.at l.width l.n l.out l.rest l.i
+
+abbrev pub decreases-loop-i : goal.decreases-loop-i
+decreases-loop-i l = l.width - l.i

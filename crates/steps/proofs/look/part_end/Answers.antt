@@ -1,0 +1,9 @@
+use Rattle.steps.proofs.LookLaws.{part_huge, part_end, part_cut}
+use borrow.Author.Rules.{rules}
+use Rattle.steps.proofs.look.part_end.Goals as goal
+
+pub returns-then-s-ge63 : goal.returns-then-s-ge63
+returns-then-s-ge63 c = search (part_huge)
+
+pub returns-then-size-len : goal.returns-then-size-len
+returns-then-size-len c = search (part_end)

@@ -1,0 +1,6 @@
+use Rattle.steps.proofs.StoreLaws.{put_part, put_past}
+use borrow.Author.Rules.{rules}
+use Rattle.steps.proofs.store.put_mark.Goals as goal
+
+pub returns-then-from-pool : goal.returns-then-from-pool
+returns-then-from-pool c = search (put_part)

@@ -1,0 +1,6 @@
+use Rattle.text.proofs.SaidLaws.{answered}
+use borrow.Author.Rules.{rules}
+use Rattle.text.proofs.lines.answer.Goals as goal
+
+pub returns : goal.returns
+returns c = search (answered)

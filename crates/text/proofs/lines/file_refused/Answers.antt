@@ -1,0 +1,6 @@
+use Rattle.text.proofs.SaidLaws.{file_refused_is}
+use borrow.Author.Rules.{rules}
+use Rattle.text.proofs.lines.file_refused.Goals as goal
+
+pub returns : goal.returns
+returns c = search (file_refused_is)

@@ -1,0 +1,6 @@
+use Rattle.text.proofs.SaidLaws.{refused_is}
+use borrow.Author.Rules.{rules}
+use Rattle.text.proofs.lines.refused.Goals as goal
+
+pub returns : goal.returns
+returns c = search (refused_is)

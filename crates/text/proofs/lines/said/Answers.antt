@@ -1,0 +1,15 @@
+use Rattle.text.proofs.SaidLaws.{said_begun, said_going, said_read, said_written, said_asked, said_refused}
+use borrow.Author.Rules.{rules}
+use Rattle.text.proofs.lines.said.Goals as goal
+
+pub returns-in-Read : goal.returns-in-Read
+returns-in-Read c = search (said_read)
+
+pub returns-in-Written : goal.returns-in-Written
+returns-in-Written c = search (said_written)
+
+pub returns-in-Asked : goal.returns-in-Asked
+returns-in-Asked c = search (said_asked)
+
+pub returns-in-Refused : goal.returns-in-Refused
+returns-in-Refused c = search (said_refused)

@@ -1,0 +1,6 @@
+use Rattle.text.proofs.SaidLaws.{sizes_is}
+use borrow.Author.Rules.{rules}
+use Rattle.text.proofs.lines.sizes.Goals as goal
+
+pub returns : goal.returns
+returns c = search (sizes_is)

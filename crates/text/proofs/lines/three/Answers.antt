@@ -1,0 +1,6 @@
+use Rattle.text.proofs.SaidLaws.{three_is}
+use borrow.Author.Rules.{rules}
+use Rattle.text.proofs.lines.three.Goals as goal
+
+pub returns : goal.returns
+returns c = search (three_is)

@@ -1,0 +1,6 @@
+use Rattle.text.proofs.SaidLaws.{two_is}
+use borrow.Author.Rules.{rules}
+use Rattle.text.proofs.lines.two.Goals as goal
+
+pub returns : goal.returns
+returns c = search (two_is)
