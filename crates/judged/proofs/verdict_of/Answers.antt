@@ -15,11 +15,8 @@ pub returns-then-idle : goal.returns-then-idle
 returns-then-idle c = search (judged_7)
 
 pub decided-requires : goal.decided-requires
-decided-requires c = let low = c.before.before.before in
-    let lent = low.before.before.before.before.before in
-    let top = lent.before.before.before.before.before in
-    let a = top.args in
-    told_known _ _ _ _ _ _ top.requires lent.if1.false a.readings.now a.links.now a.directory.now a.pool.now _ low.if3.false
+decided-requires c =
+    told_known _ _ _ _ _ _ c.requires c.if-not-fits.false c.args.readings.now c.args.links.now c.args.directory.now c.args.pool.now _ c.if-z-q.false
     c.turn_of-t.ensures
 
 pub returns : goal.returns

@@ -1,0 +1,9 @@
+use native.Mathlib.Omega.{arith}
+use Rattle.planners_text.proofs.SizeLaws.{Counted, counted_start, counted_next, counted_end}
+use Rattle.planners_text.proofs.cells.digits.Given as goal
+
+abbrev pub invariant-loop-rest : goal.invariant-loop-rest
+invariant-loop-rest l = Counted l.n l.rest l.count
+
+abbrev pub decreases-loop-rest : goal.decreases-loop-rest
+decreases-loop-rest l = l.rest

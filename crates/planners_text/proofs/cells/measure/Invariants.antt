@@ -1,0 +1,12 @@
+use Prim.Native.Nat.{◌-◌}
+use native.Mathlib.Omega.{arith}
+use borrow.Author.Rules.{rules}
+use Rattle.steps.specs.Memory.{memory}
+use Rattle.planners_text.proofs.SizeLaws.{Measuring, measuring_start, measuring_outside, measuring_next, measuring_end}
+use Rattle.planners_text.proofs.cells.measure.Given as goal
+
+abbrev pub invariant-loop-i : goal.invariant-loop-i
+invariant-loop-i l = Measuring l.s (memory l.readings l.links l.directory l.pool) l.total l.i
+
+abbrev pub decreases-loop-i : goal.decreases-loop-i
+decreases-loop-i l = l.s.terms.m - l.i

@@ -1,0 +1,9 @@
+use Rattle.planners_text.proofs.LaidLaws.{as_outside, as_none, as_written, cell_room}
+use borrow.Author.Rules.{rules}
+use Rattle.planners_text.proofs.cells.put_as.Goals as goal
+
+pub returns-in-Outside : goal.returns-in-Outside
+returns-in-Outside c = search (as_outside)
+
+pub returns-else-b : goal.returns-else-b
+returns-else-b c = search (as_none)

@@ -1,0 +1,12 @@
+use Prim.Native.Nat.{◌-◌}
+use native.Mathlib.Omega.{arith}
+use borrow.Author.Rules.{rules}
+use Rattle.steps.specs.Memory.{memory}
+use Rattle.planners_text.proofs.LaidLaws.{Laying, laying_start, laying_room, laying_next, laying_end}
+use Rattle.planners_text.proofs.cells.put_lines.Given as goal
+
+abbrev pub invariant-loop-i : goal.invariant-loop-i
+invariant-loop-i l = Laying l.s (memory l.readings l.links l.directory l.pool) l.start l.initial.out l.out l.at l.i
+
+abbrev pub decreases-loop-i : goal.decreases-loop-i
+decreases-loop-i l = l.s.terms.m - l.i

@@ -1,0 +1,9 @@
+use Rattle.planners_text.proofs.WriteLaws.{put_none, lines_room, put_all}
+use borrow.Author.Rules.{rules}
+use Rattle.planners_text.proofs.put_text.Goals as goal
+
+pub put_lines-end-requires : goal.put_lines-end-requires
+put_lines-end-requires c = search (lines_room)
+
+pub returns : goal.returns
+returns c = search (put_all)

@@ -1,0 +1,18 @@
+use Rattle.planners_text.proofs.WriteLaws.{write_9, write_8, write_10, write_9_word, write_text, measured_length}
+use borrow.Author.Rules.{rules}
+use Rattle.planners_text.proofs.write_text.Goals as goal
+
+pub returns-then-unfit : goal.returns-then-unfit
+returns-then-unfit c = search (write_9)
+
+pub returns-then-not-lengths_fit : goal.returns-then-not-lengths_fit
+returns-then-not-lengths_fit c = search (write_8)
+
+pub returns-then-at_work : goal.returns-then-at_work
+returns-then-at_work c = search (write_10)
+
+pub returns-in-Outside : goal.returns-in-Outside
+returns-in-Outside c = search (write_9_word)
+
+pub returns-in-Bytes : goal.returns-in-Bytes
+returns-in-Bytes c = search (write_text)

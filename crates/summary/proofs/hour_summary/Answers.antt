@@ -1,0 +1,18 @@
+use Rattle.summary.proofs.SummaryLaws.{summary_9, summary_8, summary_10, summary_5, summary_of_lem}
+use borrow.Author.Rules.{rules}
+use Rattle.summary.proofs.hour_summary.Goals as goal
+
+pub returns-then-unfit : goal.returns-then-unfit
+returns-then-unfit c = search (summary_9)
+
+pub returns-then-not-lengths_fit : goal.returns-then-not-lengths_fit
+returns-then-not-lengths_fit c = search (summary_8)
+
+pub returns-then-at_work : goal.returns-then-at_work
+returns-then-at_work c = search (summary_10)
+
+pub returns-then-s-h : goal.returns-then-s-h
+returns-then-s-h c = search (summary_5)
+
+pub returns : goal.returns
+returns c = search (summary_of_lem)
