@@ -85,6 +85,8 @@ module _ (z : Terms) (P : Theory.Words) (q i : ℕ) where
     op_fits_lem (Theory.write v) (Op.Store j w) n few e t = rw (le-leb n most_steps few, cell_is j e.0)
     op_fits_lem (Theory.write v) (Op.Write j c) n few e t = rw (le-leb n most_steps few, cell_is j e) (check_fits_lem c t)
     op_fits_lem (Theory.write v) (Op.Marking j k) n few e t = rw (le-leb n most_steps few, cell_is j e) (place_fits_lem k t)
+    -- no operation does what another is for: `Does` is empty there
+    op_fits_lem _ _ n few e t = elim e [ ]
 
 steps_few : (o : Theory.Op) (n : ℕ) → n < Theory.bound o → n ≤ most_steps
 steps_few Theory.read n h = omega arith

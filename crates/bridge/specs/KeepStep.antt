@@ -115,7 +115,8 @@ module _ {s : State} {mem : Memory} {b : Book} (H : Good s mem b) (q : ℕ) {beg
           → (λ r. (lane_of s r).marks) ≡ (mem_of (settled s q (l c) 0) mem H.marks).in_force
       force c k = field_same H q own (l c) (λ l. l.marks) ((advanced next (lane_after c (lane_of s q))).0 ∙ k)
 
-      drew : (c : Change) → (lane_after c (lane_of s q)).drawn ≡ (lane_of s q).drawn → (λ r. (lane_of s r).drawn) ≡ (mem_of (settled s q (l c) 0) mem H.marks).drawn
+      drew : (c : Change) → (lane_after c (lane_of s q)).drawn ≡ (lane_of s q).drawn
+          → (λ r. (lane_of s r).drawn) ≡ (mem_of (settled s q (l c) 0) mem H.marks).drawn
       drew c k = field_same H q own (l c) (λ l. l.drawn) ((advanced next (lane_after c (lane_of s q))).1 ∙ k)
 
       by : (c : Change) → Stores mem c

@@ -90,11 +90,13 @@ module _ {s : State} {mem : Memory} {b : Book} (H : Good s mem b) (q : ℕ) (j :
       S = says K.start (found H q j c) K.fine
 
   read_says : (x : ℕ) (f : Found) → Fine x f → Says Theory.read x f (read_turn s.terms j f)
+  read_says x Found.Outside fine = elim fine [ ]
   read_says x (Found.On c) fine = record { next = Next.Going (Op.Read j c); is = refl; same = refl; carries = (refl, fine) }
   read_says x (Found.NotWritten w) fine = record { next = Next.Read (fill_at s.terms j) false; is = refl; same = refl; carries = tt }
   read_says x Found.Written fine = record { next = Next.Going (Op.Reading j); is = refl; same = refl; carries = (refl, tt) }
 
   asked_says : (x : ℕ) (f : Found) → Fine x f → Says Theory.asked x f (asked_turn j f)
+  asked_says x Found.Outside fine = elim fine [ ]
   asked_says x (Found.On c) fine = record { next = Next.Going (Op.Asked j c); is = refl; same = refl; carries = (refl, fine) }
   asked_says x (Found.NotWritten w) fine = record { next = Next.Asked false; is = refl; same = refl; carries = tt }
   asked_says x Found.Written fine = record { next = Next.Asked true; is = refl; same = refl; carries = tt }
@@ -125,6 +127,7 @@ module _ {s : State} {mem : Memory} {b : Book} (H : Good s mem b) (q : ℕ) (j :
   goes_check v c hq hn e h = looks (Theory.write v) (Op.Write j c) c (checked_turn q (lane_of s q) j) refl refl e h says
     where
       says : (x : ℕ) (f : Found) → Fine x f → Says (Theory.write v) x f (checked_turn q (lane_of s q) j f)
+      says x Found.Outside fine = elim fine [ ]
       says x (Found.On c₁) fine = record { next = Next.Going (Op.Write j c₁); is = refl; same = refl; carries = (refl, fine) }
       says x (Found.NotWritten w) fine = record {
         next = Next.Going (Op.Marking j (marking_at q (lane_of s q) w));

@@ -98,7 +98,8 @@ upd_self f q v e = λ z r. at r (ℕ_discrete r q) z
 -- ---- the directory, by lane and segment
 
 pub starts_set : (directory : List ℕ) (q s start : ℕ) → s < most_segments → directory_word q s < length directory
-    → ◌≡◌ {A = ℕ → ℕ → ℕ} (Theory.upd (starts_in directory) q (Theory.upd (starts_in directory q) s start)) (starts_in (set directory (directory_word q s) start))
+    → ◌≡◌ {A = ℕ → ℕ → ℕ} (Theory.upd (starts_in directory) q (Theory.upd (starts_in directory q) s start))
+    (starts_in (set directory (directory_word q s) start))
 starts_set directory q s start few inside = λ z r t. at r t (ℕ_discrete r q) (ℕ_discrete t s) z
   where
     away : (r t : ℕ) → (t < most_segments → directory_word r t ≢ directory_word q s)

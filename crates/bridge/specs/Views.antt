@@ -35,6 +35,7 @@ works z Theory.asked i (Op.Asked j c) h = refl
 works z (Theory.write v) i (Op.Store j w) h = refl
 works z (Theory.write v) i (Op.Write j c) h = refl
 works z (Theory.write v) i (Op.Marking j k) h = refl
+works z _ i _ h = elim h [ ]
 
 module _ {s : State} {mem : Memory} {b : Book} (H : Good s mem b) where
   abbrev call_begin : ℕ → Ask → Call Ask s.terms

@@ -246,3 +246,4 @@ goes_on {s} {mem} {b} H q {began} {taken} {o} {i} e = by o (lane_of s q).op (at_
         (subst (Fits (Theory.write v) (Op.Store j v)) d.0 (goes_store H q hq j v) at)
     by (Theory.write v) (Op.Write j c) at d h = subst (Fits (Theory.write v) (Op.Write j c)) d (λ at. Looks.goes_check H q j v c few small at h) at
     by (Theory.write v) (Op.Marking j k) at d h = subst (Fits (Theory.write v) (Op.Marking j k)) d (λ at. goes_marking H q hq j v k at h) at
+    by _ _ at d h = elim d [ ]

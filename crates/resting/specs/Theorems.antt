@@ -138,7 +138,7 @@ module _ (z : Terms) (mem : Memory) (ok : Accepted grid z mem) (calls : List (Ca
 
 no_entries : (es : List Entry) → ((e : Entry) → Memᴰ e es → (d : Done) × Memᴰ d [] × Is e d) → es ≡ []
 no_entries [] h = refl
-no_entries (e ∷ es) h = absurd (Memᴰ.not_nil (h e (Memᴰ.head refl)).1)
+no_entries (e ∷ es) h = absurd (Memᴰ.not-nil (h e (Memᴰ.head refl)).1)
 
 no_values : (f : ℕ → ℕ) (h : ℕ) → hour_in f [] h ≡ []
 unfolding written deeds

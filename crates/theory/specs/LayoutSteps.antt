@@ -33,7 +33,7 @@ module _ {G : Grid} {old_link : ℕ → Link} {W : World} (I : Inv G old_link W)
     cover = λ r n h. rw (hs r) (Y.cover r n h);
     owned = λ r s hr h. Y.owned r s hr (rw (hs r) at h);
     stages =
-        LayoutAside.stages_of I Y q o i nx M.drawn _ own
+        LayoutAside.stages_of I Y q o i nx M.drawn (record { directory = P.directory; pool = P.pool; top = P.top; held = held }) own
         (λ r ne. record { same_drawn = refl; same_held = hh r ne; same_start = λ k n h. refl; owns = λ t start h. h }) hm;
   }
     where

@@ -151,8 +151,8 @@ module _ {G : Grid} (A : Lawful G) {R : Run} (H : Whole G R) where
 pub whole_run : {G : Grid} (A : Lawful G) {R : Run} (H : Whole G R) (cs : List Call) → Later H (after_calls G R cs)
 unfolding after_calls
 whole_run A H [] = record { whole = H; grown = grown_same H.log }
-whole_run A H (c ∷ cs) = let L = whole_call A H c in
-    let M = whole_run A L.whole cs in
+whole_run {G = G} A {R = R} H (c ∷ cs) = let L = whole_call A H c in
+    let M = whole_run A {R = after_call G R c} L.whole cs in
     record { whole = M.whole; grown = grown_on L.grown M.grown }
 
 pub whole_opened : (G : Grid) (readings : ℕ → ℕ) (links : ℕ → Link) (marks directory : ℕ → ℕ → ℕ) (pool held : ℕ → ℕ)
