@@ -1,4 +1,5 @@
 use Rattle.judged.proofs.ActLaws.{judged_9, judged_8, judged_4, judged_7, judged_on, sizes_known, lane_known, told_known}
+use Rattle.std.proofs.Common.{ap, not}
 use borrow.Author.Rules.{rules}
 use Rattle.judged.proofs.verdict_of.Goals as goal
 
@@ -16,7 +17,7 @@ returns-then-idle c = search (judged_7)
 
 pub decided-requires : goal.decided-requires
 decided-requires c =
-    told_known _ _ _ _ _ _ c.requires c.if-not-fits.false c.args.readings.now c.args.links.now c.args.directory.now c.args.pool.now _ c.if-z-q.false
+    told_known _ _ _ _ _ _ c.requires (ap not c.if-not-fits.false) c.args.readings.now c.args.links.now c.args.directory.now c.args.pool.now _ c.if-z-q.false
     c.turn_of-t.ensures
 
 pub returns : goal.returns
