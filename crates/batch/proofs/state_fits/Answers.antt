@@ -1,0 +1,14 @@
+use Prim.Native.Nat.{◌≤◌, ◌-◌}
+use native.Mathlib.Omega.{arith}
+use borrow.Author.Rules.{rules}
+use Rattle.lanes.specs.Scan.{Passed, passed_none, passed_more, few_lanes}
+use Rattle.acts.proofs.StateLaws.{loop_end}
+use Rattle.batch.proofs.state_fits.Goals as goal
+
+pub loop-i-init : goal.loop-i-init
+loop-i-init c = (omega arith, search (passed_none))
+
+pub loop-i-preserved : goal.loop-i-preserved
+loop-i-preserved c = let d = c.before.before.before.before in
+    let s = d.before.before.before.before.args.t1 in
+    (omega arith, passed_more s _ _ _ _ d.loop.invariant.1 c.lane_fits.ensures c.both-fits.ensures)

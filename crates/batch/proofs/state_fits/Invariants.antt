@@ -1,0 +1,12 @@
+use Prim.Native.Nat.{◌≤◌, ◌-◌}
+use native.Mathlib.Omega.{arith}
+use borrow.Author.Rules.{rules}
+use Rattle.lanes.specs.Scan.{Passed, passed_none, passed_more, few_lanes}
+use Rattle.acts.proofs.StateLaws.{loop_end}
+use Rattle.batch.proofs.state_fits.Given as goal
+
+abbrev pub invariant-loop-i : goal.invariant-loop-i
+invariant-loop-i l = (l.i ≤ l.end) × Passed l.s l.i l.fits
+
+abbrev pub decreases-loop-i : goal.decreases-loop-i
+decreases-loop-i l = l.end - l.i
