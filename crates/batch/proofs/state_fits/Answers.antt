@@ -9,6 +9,5 @@ pub loop-i-init : goal.loop-i-init
 loop-i-init c = (omega arith, search (passed_none))
 
 pub loop-i-preserved : goal.loop-i-preserved
-loop-i-preserved c = let d = c.before.before.before.before in
-    let s = d.before.before.before.before.args.t1 in
-    (omega arith, passed_more s _ _ _ _ d.loop.invariant.1 c.lane_fits.ensures c.both-fits.ensures)
+loop-i-preserved c =
+    (omega arith, passed_more c.args.s _ _ _ _ c.loop-i.invariant.1 c.lane_fits.ensures c.both-fits.ensures)

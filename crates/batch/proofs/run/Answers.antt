@@ -1,0 +1,35 @@
+use Prim.Native.Nat.{◌-◌}
+use native.Mathlib.Omega.{arith}
+use mathlib.Core.Path.{refl, ap, ◌∙◌}
+use borrow.Author.Rules.{rules}
+use Rattle.acts.specs.Inner.{lane_at}
+use Rattle.acts.proofs.StateLaws.{judged_at}
+use Rattle.batch.proofs.BatchLaws.{Going, going_start, going_more, going_end, going_kept, entries_are}
+use Rattle.batch.proofs.run.Goals as goal
+
+pub loop-i-init : goal.loop-i-init
+loop-i-init c = going_start c.args.kinds.now c.args.processes.now c.args.cells.now c.args.values.now c.args.answers.now _ _ _ _ c.args.s _ _
+    (entries_are c.args.kinds.now c.args.processes.now c.args.cells.now c.args.values.now c.args.answers.now _ _ _ _ c.least.ensures
+    c.least-2.ensures c.least-3.ensures c.least-n.ensures)
+    c.state_fits-fits.ensures
+
+pub entry-b-requires : goal.entry-b-requires
+entry-b-requires c = let seen = c.lane_of-j.ensures.0 ∙ ap lane_at c.named.ensures in
+    rw (← c.loop-i.invariant.terms)
+    (judged_at c.loop-i.t _ _ c.lane_of-k.ensures.0 _ refl _ _ seen refl _ c.loop-i.invariant.fine)
+
+pub loop-i-preserved-then-changes : goal.loop-i-preserved-then-changes
+loop-i-preserved-then-changes c = let from = c.lane_of-j.ensures.0 ∙ ap lane_at c.named.ensures in
+    going_more _ _ _ _ _ _ _ _ _ _ _ _ _ _ _ _ _ c.loop-i.t _ c.loop-i.invariant _ _ _ _ _ _ _ _ _ _ refl c.loop-i-test.true c.lane_of-k.ensures.0 from c.entry-b.ensures
+    (c.code_of.ensures.value, c.code_of.ensures.result_value) c.put_wide.ensures c.readings-1.given
+    c.links-1.given c.directory-1.given c.pool-1.given
+
+pub loop-i-preserved : goal.loop-i-preserved
+loop-i-preserved c = let from = c.lane_of-j.ensures.0 ∙ ap lane_at c.named.ensures in
+    going_kept _ _ _ _ _ _ _ _ _ _ _ _ _ _ _ _ _ c.loop-i.t _ c.loop-i.invariant _ _ _ _ _ _ _ _ _ _
+    c.changes.ensures c.if-changes.false c.loop-i-test.true c.lane_of-k.ensures.0 from c.entry-b.ensures
+    (c.code_of.ensures.value, c.code_of.ensures.result_value) c.put_wide.ensures c.readings-1.given
+    c.links-1.given c.directory-1.given c.pool-1.given
+
+pub returns-clause-answers_after : goal.returns-clause-answers_after
+returns-clause-answers_after c = (going_end _ _ _ _ _ _ _ _ _ _ _ _ _ _ _ _ _ _ _ c.loop-i.invariant c.loop-i-test.false).0

@@ -1,0 +1,11 @@
+use Prim.Native.Nat.{◌-◌}
+use Rattle.rewrite.proofs.AgainLaws.{cell_fits_lem, Gathered, gathered_none, gathered_next, gathered_all}
+use native.Mathlib.Omega.{arith}
+use borrow.Author.Rules.{rules}
+use Rattle.rewrite.proofs.again.gather.Given as goal
+
+abbrev pub invariant-loop-k : goal.invariant-loop-k
+invariant-loop-k l = Gathered l.bytes l.n l.kinds l.processes l.cells l.values l.k
+
+abbrev pub decreases-loop-k : goal.decreases-loop-k
+decreases-loop-k l = l.n - l.k
