@@ -1,0 +1,12 @@
+use Prim.Native.Nat.{◌-◌, ◌≤◌}
+use native.Mathlib.Omega.{arith}
+use borrow.Author.Rules.{rules}
+use Rattle.play.specs.Inner.{word_lines, Shown}
+use Rattle.play.proofs.LineLaws.{lines_start, lines_next, lines_end, lines_sized}
+use Rattle.play.proofs.lists.lines.Given as goal
+
+abbrev pub invariant-loop-i : goal.invariant-loop-i
+invariant-loop-i l = (l.i ≤ l.c) × Shown l.i l.initial.out l.at (word_lines l.first l.words l.i) l.out l.end
+
+abbrev pub decreases-loop-i : goal.decreases-loop-i
+decreases-loop-i l = l.c - l.i
