@@ -46,8 +46,8 @@ fn count_of(b: bool, n: u8) -> u32
 }
 
 fn code_of(a: Answer) -> u64
-    ensures value { result ≡ code_of a }
-    ensures result_value { answer_of result ≡ a }
+    ensures word { result ≡ code_of a }
+    ensures back { answer_of result ≡ a }
 {
     match a {
         Answer::Begun => code(0, 0, 0),
@@ -135,7 +135,7 @@ pub fn run(
     directory: &mut [u32],
     pool: &mut [Mark],
 ) -> State
-    ensures answers_after { batch result (memory readings.new links.new directory.new pool.new) answers.new ≡ batch_of s (memory readings.old links.old directory.old pool.old) answers.old kinds.now processes.now cells.now values.now }
+    ensures done { batch result (memory readings.new links.new directory.new pool.new) answers.new ≡ batch_of s (memory readings.old links.old directory.old pool.old) answers.old kinds.now processes.now cells.now values.now }
     ensures told { Told kinds.now processes.now cells.now values.now (batch s (memory readings.old links.old directory.old pool.old) answers.old) (entries kinds.now processes.now cells.now values.now answers.old) answers.new }
 {
     let mut t = s;

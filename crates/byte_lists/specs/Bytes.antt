@@ -5,7 +5,6 @@ use Prim.Native.Char.{code}
 use Prim.Native.String.{String, [] as none, ◌∷◌ as ◌then◌}
 use Rattle.logic.specs.Pick.{pick}
 use Rattle.byte_lists.specs.declared.Put.{Put}
-use Rattle.byte_lists.specs.declared.Put.TheVariants as Put
 
 -- Byte i; one past the end counts as 0.
 abbrev pub byte_at : List ℕ → ℕ → ℕ

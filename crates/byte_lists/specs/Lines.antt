@@ -1,6 +1,6 @@
 -- What functions of this crate and above it promise of a line that is being made; no statement cites it.
 -- Assumes nothing.
-use Rattle.std.specs.Prelude.{ℕ, ◌+◌, ◌≡◌, List, ◌++◌, length, take}
+use Rattle.std.specs.Prelude.{ℕ, ◌≡◌, List, ◌++◌, length, take}
 use Rattle.byte_lists.specs.declared.line.Line.{Line}
 
 -- The most bytes that a line takes, and those that it has so far.

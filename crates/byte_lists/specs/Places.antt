@@ -4,7 +4,6 @@ use Rattle.std.specs.Prelude.{ℕ, ◌+◌, ◌≤◌, ◌≡◌, List, [], ◌+
 use Rattle.std.proofs.Common.{sym, ap, ◌∙◌, append_assoc, arith, length-append, length-drop, take-append-drop, take_at, drop-drop, length-take-le, le-leb}
 use Rattle.std.proofs.Math.Seq.{drop-append-add}
 use Rattle.byte_lists.specs.declared.Put.{Put}
-use Rattle.byte_lists.specs.declared.Put.TheVariants as Put
 use Rattle.byte_lists.specs.Bytes.{splice, Placed, placed, put_of, end_of}
 
 -- Bytes that fit are put.

@@ -3,7 +3,6 @@
 -- Assumes nothing.
 use Rattle.std.specs.Prelude.{ℕ, ◌≡◌, refl, List, [], ◌∷◌, get_or}
 use Rattle.refusals.specs.declared.Refusal.{Refusal}
-use Rattle.refusals.specs.declared.Refusal.TheVariants as Refusal
 
 -- The refusals at their numbers, from 0 on; at a number of no row, the one that any other number has.
 abbrev pub table : List Refusal

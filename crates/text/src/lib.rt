@@ -12,8 +12,8 @@ use refusals::Refusal;
 
 // The line of record k, which was answered a.
 pub fn put_answer(out: &mut [u8], at: usize, k: usize, a: Answer) -> Put
-    ensures out_after { placed result out.new ≡ put_of out.old at (answer_line k a) }
-    ensures a_in_bounds { length (answer_line k a) ≤ length (decimal k) + 23 }
+    ensures laid { placed result out.new ≡ put_of out.old at (answer_line k a) }
+    ensures short { length (answer_line k a) ≤ length (decimal k) + 23 }
 {
     put_line(out, at, lines::answer(k, a))
 }

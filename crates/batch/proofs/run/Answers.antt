@@ -21,15 +21,15 @@ entry-b-requires c = let seen = c.lane_of-j.ensures.0 ∙ ap lane_at c.named.ens
 pub loop-i-preserved-then-changes : goal.loop-i-preserved-then-changes
 loop-i-preserved-then-changes c = let from = c.lane_of-j.ensures.0 ∙ ap lane_at c.named.ensures in
     going_more _ _ _ _ _ _ _ _ _ _ _ _ _ _ _ _ _ c.loop-i.t _ c.loop-i.invariant _ _ _ _ _ _ _ _ _ _ refl c.loop-i-test.true c.lane_of-k.ensures.0 from c.entry-b.ensures
-    (c.code_of.ensures.value, c.code_of.ensures.result_value) c.put_wide.ensures c.readings-1.given
+    (c.code_of.ensures.word, c.code_of.ensures.back) c.put_wide.ensures c.readings-1.given
     c.links-1.given c.directory-1.given c.pool-1.given
 
 pub loop-i-preserved : goal.loop-i-preserved
 loop-i-preserved c = let from = c.lane_of-j.ensures.0 ∙ ap lane_at c.named.ensures in
     going_kept _ _ _ _ _ _ _ _ _ _ _ _ _ _ _ _ _ c.loop-i.t _ c.loop-i.invariant _ _ _ _ _ _ _ _ _ _
     c.changes.ensures c.if-changes.false c.loop-i-test.true c.lane_of-k.ensures.0 from c.entry-b.ensures
-    (c.code_of.ensures.value, c.code_of.ensures.result_value) c.put_wide.ensures c.readings-1.given
+    (c.code_of.ensures.word, c.code_of.ensures.back) c.put_wide.ensures c.readings-1.given
     c.links-1.given c.directory-1.given c.pool-1.given
 
-pub returns-clause-answers_after : goal.returns-clause-answers_after
-returns-clause-answers_after c = (going_end _ _ _ _ _ _ _ _ _ _ _ _ _ _ _ _ _ _ _ c.loop-i.invariant c.loop-i-test.false).0
+pub returns-clause-done : goal.returns-clause-done
+returns-clause-done c = (going_end _ _ _ _ _ _ _ _ _ _ _ _ _ _ _ _ _ _ _ c.loop-i.invariant c.loop-i-test.false).0

@@ -1,10 +1,7 @@
-use mathlib.Core.Path.{◌≡◌, refl}
+use mathlib.Core.Path.{◌≡◌}
 use Prim.Native.Nat.{◌≤◌, ◌-◌}
 use lib.ListN.{length}
-use lib.Seq.{paste, paste-zero}
-use native.Mathlib.Omega.{arith}
-use borrow.Author.Rules.{rules}
-use Rattle.byte_lists.proofs.PutLaws.{put_past, put_none, put_next, put_all}
+use lib.Seq.{paste}
 use Rattle.byte_lists.proofs.put_bytes.Given as goal
 
 abbrev pub invariant-loop-i : goal.invariant-loop-i

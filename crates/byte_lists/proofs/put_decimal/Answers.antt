@@ -1,5 +1,4 @@
 use Rattle.byte_lists.proofs.MadeLaws.{put_number}
-use borrow.Author.Rules.{rules}
 use Rattle.byte_lists.proofs.put_decimal.Goals as goal
 
 pub returns : goal.returns

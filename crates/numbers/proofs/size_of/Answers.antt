@@ -1,4 +1,4 @@
-use Rattle.std.proofs.Common.{◌≡◌, ℕ, ◌+◌, ◌-◌, ◌%◌, ◌^◌, ◌≤◌, sym, ap, ◌∙◌, arith, pow-add, rules}
+use Rattle.std.proofs.Common.{◌≡◌, ℕ, ◌+◌, ◌-◌, ◌%◌, ◌^◌, ◌≤◌, sym, ap, ◌∙◌, arith, pow-add}
 use native.Mathlib.Nat.{mul-mod_right}
 use Rattle.numbers.specs.Numbers.{size_of}
 use Rattle.numbers.specs.Logs.{double}

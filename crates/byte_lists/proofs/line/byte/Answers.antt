@@ -1,5 +1,4 @@
 use Rattle.byte_lists.proofs.LineLaws.{byte_in, byte_past}
-use borrow.Author.Rules.{rules}
 use Rattle.byte_lists.proofs.line.byte.Goals as goal
 
 pub returns-then-at-lt-ROOM : goal.returns-then-at-lt-ROOM

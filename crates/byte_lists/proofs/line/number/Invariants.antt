@@ -1,6 +1,4 @@
-use native.Mathlib.Omega.{arith}
-use borrow.Author.Rules.{rules}
-use Rattle.byte_lists.proofs.LineLaws.{Left, left_start, left_next, left_room, left_last}
+use Rattle.byte_lists.proofs.LineLaws.{Left}
 use Rattle.byte_lists.proofs.line.number.Given as goal
 
 abbrev pub invariant-loop-rest : goal.invariant-loop-rest

@@ -1,9 +1,5 @@
-use Prim.Native.Nat.{◌≤◌, ◌-◌}
-use lib.ListN.{length, take}
 use native.Mathlib.Omega.{arith}
-use borrow.Author.Rules.{rules}
-use Rattle.byte_lists.specs.Lines.{Grown}
-use Rattle.byte_lists.proofs.LineLaws.{word_start, word_next, word_end}
+use Rattle.byte_lists.proofs.LineLaws.{word_start, word_next}
 use Rattle.byte_lists.proofs.line.word.Goals as goal
 
 pub loop-i-init : goal.loop-i-init

@@ -1,9 +1,6 @@
 use Prim.Native.Nat.{◌≤◌, ◌-◌}
 use lib.ListN.{length, take}
-use native.Mathlib.Omega.{arith}
-use borrow.Author.Rules.{rules}
 use Rattle.byte_lists.specs.Lines.{Grown}
-use Rattle.byte_lists.proofs.LineLaws.{word_start, word_next, word_end}
 use Rattle.byte_lists.proofs.line.word.Given as goal
 
 abbrev pub invariant-loop-i : goal.invariant-loop-i

@@ -6,4 +6,4 @@ use Rattle.play.proofs.ListLaws.{Filling, filling_none, filling_more, taken_long
 use Rattle.play.proofs.lists.played.Goals as goal
 
 pub returns : goal.returns
-returns c = played_is _ _ _ _ _ _ _ _ _ _ _ _ _ _ c.requires c.loop-i-test.false c.loop-i.invariant c.run.ensures.0 c.run.ensures.1
+returns c = played_is _ _ _ _ _ _ _ _ _ _ _ _ _ _ c.requires c.loop-i-test.false c.loop-i.invariant c.run.ensures.done c.run.ensures.told

@@ -1,0 +1,16 @@
+use Prim.Native.Nat.{◌-◌, ◌≤◌}
+use native.Mathlib.Omega.{arith}
+use borrow.Author.Rules.{rules}
+use Rattle.play.specs.Inner.{word_lines, Shown}
+use Rattle.play.proofs.LineLaws.{lines_start, lines_next, lines_end, lines_sized}
+use Rattle.play.proofs.lists.lines.Goals as goal
+
+pub loop-i-init : goal.loop-i-init
+loop-i-init c = (omega arith, lines_start _ _ _ _)
+
+pub loop-i-preserved : goal.loop-i-preserved
+loop-i-preserved c = (
+      omega arith,
+      lines_next _ _ _ _ _ _ _ _ _ _ _ _ c.requires c.loop-i-test.true c.loop-i.invariant.1
+          c.answer_of-a.ensures c.put_answer.ensures.laid c.put_answer.ensures.short c.end_of-end.ensures,
+    )
