@@ -11,7 +11,6 @@ use Rattle.refusals.specs.declared.Refusal.{Refusal}
 use Rattle.qhs.specs.declared.Header.{Header}
 use Rattle.qhs.specs.declared.Record.{Record}
 use Rattle.qhs.specs.declared.Reading.{Reading}
-use Rattle.qhs.specs.declared.Reading.TheVariants as Reading
 use Rattle.qhs.specs.Qhs.{version1, most_records, record_in, record_at, read_of}
 use Rattle.qhs.specs.Laws.{schedule}
 use Rattle.byte_lists.specs.Digits.{Bytes, number_below}
@@ -20,7 +19,6 @@ use Rattle.byte_lists.specs.declared.Put.TheVariants as Put
 use Rattle.text.specs.Text.{file_refused_line}
 use Rattle.byte_lists.specs.Bytes.{Placed, placed, put_of}
 use Rattle.qhs_writer.specs.declared.Wrote.{Wrote}
-use Rattle.qhs_writer.specs.declared.Wrote.TheVariants as Wrote
 use Rattle.qhs_writer.specs.Writer.{Fields, fields, Page, page, write_of}
 use Rattle.qhs_writer.specs.Again.{listed, fields_of}
 use Rattle.rewrite.specs.Again.{shown_as, shown, written, again_as, again_of}

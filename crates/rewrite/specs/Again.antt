@@ -3,13 +3,11 @@
 use Rattle.std.specs.Prelude.{ℕ, List}
 use Rattle.qhs.specs.declared.Header.{Header}
 use Rattle.qhs.specs.declared.Reading.{Reading}
-use Rattle.qhs.specs.declared.Reading.TheVariants as Reading
 use Rattle.qhs.specs.Qhs.{read_of}
 use Rattle.byte_lists.specs.declared.Put.TheVariants as Put
 use Rattle.text.specs.Text.{file_refused_line}
 use Rattle.byte_lists.specs.Bytes.{Placed, placed, put_of}
 use Rattle.qhs_writer.specs.declared.Wrote.{Wrote}
-use Rattle.qhs_writer.specs.declared.Wrote.TheVariants as Wrote
 use Rattle.qhs_writer.specs.Writer.{Page, write_of}
 use Rattle.qhs_writer.specs.Again.{fields_of}
 

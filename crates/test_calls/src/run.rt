@@ -9,6 +9,7 @@ use test_vectors::{four, out, show, vector, went};
 
 // The call on memories that have their lengths, and its seven lines.
 fn called(
+    rt: &impl Print,
     input: &[u64],
     base: usize,
     as_lent: Memories,
@@ -22,13 +23,14 @@ fn called(
 ) -> usize {
     let s = vector::state_of(input, base);
     let made = make::make(input, base, s, readings, links, directory, pool, page);
-    let e = show::answered(buf, at, made);
-    let e = show::memories(buf, e, as_lent, readings, links, directory, pool);
-    show::memory8(buf, e, b"buffer", page, page::fill(input, base) as u64)
+    let e = show::answered(rt, buf, at, made);
+    let e = show::memories(rt, buf, e, as_lent, readings, links, directory, pool);
+    show::memory8(rt, buf, e, b"buffer", page, page::fill(input, base) as u64)
 }
 
 // The call on the parts of the memories that were lent, and on a buffer.
 fn on_parts(
+    rt: &impl Print,
     input: &[u64],
     base: usize,
     as_lent: Memories,
@@ -47,6 +49,7 @@ fn on_parts(
     let mut page = [fill; PAGE];
     let n = page::room(input, base);
     called(
+        rt,
         input,
         base,
         as_lent,
@@ -62,6 +65,7 @@ fn on_parts(
 
 // The vector at word `base`.
 fn one(
+    rt: &impl Print,
     input: &[u64],
     base: usize,
     readings: &mut [u32],
@@ -76,7 +80,7 @@ fn one(
         Filled::Damaged(f) => Went::Damaged(f),
         Filled::Memories(as_lent) => {
             let e = on_parts(
-                input, base, as_lent, readings, links, directory, pool, buf, at,
+                rt, input, base, as_lent, readings, links, directory, pool, buf, at,
             );
             Went::On(as_lent.pool.next, e)
         }
@@ -85,6 +89,7 @@ fn one(
 
 // Every vector's seven lines, or those up to the first damaged one and then why. `end` is past the input's words where its last one is cut.
 pub fn all(
+    rt: &impl Print,
     input: &[u64],
     end: usize,
     readings: &mut [u32],
@@ -97,11 +102,11 @@ pub fn all(
     let mut at: usize = 0;
     let mut k: u64 = 0;
     while base < end {
-        let ended = one(input, base, readings, links, directory, pool, buf, at);
-        let place = went::settled(buf, at, k, base, end, ended);
+        let ended = one(rt, input, base, readings, links, directory, pool, buf, at);
+        let place = went::settled(rt, buf, at, k, base, end, ended);
         base = place.base;
         at = place.at;
         k = k + 1;
     }
-    out::flush(buf, at);
+    out::flush(rt, buf, at);
 }

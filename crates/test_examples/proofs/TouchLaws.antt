@@ -14,14 +14,10 @@ use Rattle.numbers.specs.declared.Place.{Place}
 use Rattle.numbers.specs.declared.Terms.{Terms}
 use Rattle.numbers.specs.declared.Process.{Process}
 use Rattle.lanes.specs.declared.Check.{Check}
-use Rattle.lanes.specs.declared.Check.TheVariants as Check
 use Rattle.lanes.specs.declared.Marking.{Marking}
-use Rattle.lanes.specs.declared.Marking.TheVariants as Marking
 use Rattle.lanes.specs.declared.Op.{Op}
-use Rattle.lanes.specs.declared.Op.TheVariants as Op
 use Rattle.steps.specs.Steps.{start_of}
 use Rattle.steps.specs.declared.Word.{Word}
-use Rattle.steps.specs.declared.Word.TheVariants as Word
 use Rattle.steps.specs.Touched.{touched_in, touched_marking, touched}
 
 -- an offset is less than half of its place, so that an address fits 64 bits

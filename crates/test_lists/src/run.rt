@@ -12,11 +12,18 @@ fn is_batch(input: &[u64], base: usize) -> bool {
     words::at(input, base, 0) == BATCH
 }
 
-fn last_line(buf: &mut [u8], at: usize, many: bool, last: &[u64], fill: u64) -> usize {
+fn last_line(
+    rt: &impl Print,
+    buf: &mut [u8],
+    at: usize,
+    many: bool,
+    last: &[u64],
+    fill: u64,
+) -> usize {
     if many {
-        return show::memory64(buf, at, b"answers", last, fill);
+        return show::memory64(rt, buf, at, b"answers", last, fill);
     }
-    show::memory64(buf, at, b"buffer", last, fill)
+    show::memory64(rt, buf, at, b"buffer", last, fill)
 }
 
 fn made(
@@ -45,6 +52,7 @@ fn made(
 
 // The call on memories and lists that have their lengths, and its seven lines.
 fn called(
+    rt: &impl Print,
     input: &[u64],
     base: usize,
     as_lent: Memories,
@@ -65,13 +73,14 @@ fn called(
         input, base, as_lent, readings, links, directory, pool, kinds, processes, cells, values,
         last,
     );
-    let e = show::answered(buf, at, r);
-    let e = show::memories(buf, e, as_lent, readings, links, directory, pool);
-    last_line(buf, e, is_batch(input, base), last, fill)
+    let e = show::answered(rt, buf, at, r);
+    let e = show::memories(rt, buf, e, as_lent, readings, links, directory, pool);
+    last_line(rt, buf, e, is_batch(input, base), last, fill)
 }
 
 // The call on the lists that come after the memories.
 fn on_lists(
+    rt: &impl Print,
     input: &[u64],
     base: usize,
     as_lent: Memories,
@@ -105,6 +114,7 @@ fn on_lists(
             let v = numbers::least(listed.values.len, LIST);
             let l = numbers::least(listed.last.len, LAST);
             let e = called(
+                rt,
                 input,
                 base,
                 as_lent,
@@ -128,6 +138,7 @@ fn on_lists(
 
 // The call on the parts of the memories that were lent.
 fn on_parts(
+    rt: &impl Print,
     input: &[u64],
     base: usize,
     as_lent: Memories,
@@ -143,6 +154,7 @@ fn on_parts(
     let d = numbers::least(as_lent.directory.len, directory.len());
     let p = numbers::least(as_lent.pool.len, pool.len());
     on_lists(
+        rt,
         input,
         base,
         as_lent,
@@ -157,6 +169,7 @@ fn on_parts(
 
 // The vector at word `base`.
 fn one(
+    rt: &impl Print,
     input: &[u64],
     base: usize,
     readings: &mut [u32],
@@ -170,13 +183,14 @@ fn one(
     match filled {
         Filled::Damaged(f) => Went::Damaged(f),
         Filled::Memories(as_lent) => on_parts(
-            input, base, as_lent, readings, links, directory, pool, buf, at,
+            rt, input, base, as_lent, readings, links, directory, pool, buf, at,
         ),
     }
 }
 
 // Every vector's seven lines, or those up to the first damaged one and then why. `end` is past the input's words where its last one is cut.
 pub fn all(
+    rt: &impl Print,
     input: &[u64],
     end: usize,
     readings: &mut [u32],
@@ -189,11 +203,11 @@ pub fn all(
     let mut at: usize = 0;
     let mut k: u64 = 0;
     while base < end {
-        let ended = one(input, base, readings, links, directory, pool, buf, at);
-        let place = went::settled(buf, at, k, base, end, ended);
+        let ended = one(rt, input, base, readings, links, directory, pool, buf, at);
+        let place = went::settled(rt, buf, at, k, base, end, ended);
         base = place.base;
         at = place.at;
         k = k + 1;
     }
-    out::flush(buf, at);
+    out::flush(rt, buf, at);
 }

@@ -1,7 +1,8 @@
 // Standard input, read into words of 64 bits, little-endian.
-ghost use Rattle.std.specs.Prelude.{◌+◌, ◌≤◌, ◌<◌, length};
+ghost use Rattle.std.specs.Prelude.{◌+◌, ◌≤◌, ◌<◌, length, IfOk};
 
-use libc::STDIN_FILENO;
+use std::io;
+use std::io::Read;
 
 // Bytes of one read at the most.
 const PIECE: usize = 65536;
@@ -52,13 +53,13 @@ fn store(words: &mut [u64], at: usize, bytes: &[u8]) {
 }
 
 // One read; how many bytes came.
-fn piece(words: &mut [u64], at: usize) -> usize
-    ensures { result ≤ 65536 }
+fn piece<R: Read>(from: &mut R, words: &mut [u64], at: usize) -> io::Result<usize>
+    ensures { IfOk result (λ n. n ≤ 65536) }
 {
-    let mut buf = io::large_buffer();
-    let n = io::read_full(STDIN_FILENO, &mut buf);
+    let mut buf = [0u8; PIECE];
+    let n = streams::read_full(from, &mut buf)?;
     store(words, at, &buf[..n]);
-    n
+    Ok(n)
 }
 
 // The reads that are done with; all of them where the input has ended.
@@ -70,15 +71,15 @@ fn reads_after(reads: usize, n: usize) -> usize
 }
 
 // Reads to the end of the input, or until it is too long; how many bytes came.
-pub fn take(words: &mut [u64]) -> usize {
+pub fn take<R: Read>(from: &mut R, words: &mut [u64]) -> io::Result<usize> {
     let mut bytes: usize = 0;
     let mut reads: usize = 0;
     while reads < READS {
-        let n = piece(words, bytes / 8);
+        let n = piece(from, words, bytes / 8)?;
         bytes = bytes + n;
         reads = reads_after(reads, n);
     }
-    bytes
+    Ok(bytes)
 }
 
 // How many words so many bytes are; the last may be cut.

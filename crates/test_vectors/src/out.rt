@@ -1,20 +1,19 @@
 // The output, kept in a buffer and written when it is full.
 use byte_lists::Put;
-use libc::STDOUT_FILENO;
 
-// Writes the first `at` bytes.
-pub fn flush(out: &[u8], at: usize) {
+// Writes the first `at` bytes. A write that fails is not told.
+pub fn flush(rt: &impl Print, out: &[u8], at: usize) {
     if at <= out.len() {
-        io::write_all(STDOUT_FILENO, &out[..at]);
+        let _ = rt.write_all(&out[..at]);
     }
 }
 
-pub fn bytes(out: &mut [u8], at: usize, w: &[u8]) -> usize {
+pub fn bytes(rt: &impl Print, out: &mut [u8], at: usize, w: &[u8]) -> usize {
     let put = byte_lists::put_bytes(out, at, w);
     match put {
         Put::End(e) => e,
         Put::NoRoom => {
-            flush(out, at);
+            flush(rt, out, at);
             let again = byte_lists::put_bytes(out, 0, w);
             match again {
                 Put::End(e) => e,
@@ -24,12 +23,12 @@ pub fn bytes(out: &mut [u8], at: usize, w: &[u8]) -> usize {
     }
 }
 
-pub fn number(out: &mut [u8], at: usize, n: u64) -> usize {
+pub fn number(rt: &impl Print, out: &mut [u8], at: usize, n: u64) -> usize {
     let put = byte_lists::put_decimal(out, at, n);
     match put {
         Put::End(e) => e,
         Put::NoRoom => {
-            flush(out, at);
+            flush(rt, out, at);
             let again = byte_lists::put_decimal(out, 0, n);
             match again {
                 Put::End(e) => e,
@@ -40,11 +39,11 @@ pub fn number(out: &mut [u8], at: usize, n: u64) -> usize {
 }
 
 // A space and a number.
-pub fn next_number(out: &mut [u8], at: usize, n: u64) -> usize {
-    let e = bytes(out, at, b" ");
-    number(out, e, n)
+pub fn next_number(rt: &impl Print, out: &mut [u8], at: usize, n: u64) -> usize {
+    let e = bytes(rt, out, at, b" ");
+    number(rt, out, e, n)
 }
 
-pub fn newline(out: &mut [u8], at: usize) -> usize {
-    bytes(out, at, b"\n")
+pub fn newline(rt: &impl Print, out: &mut [u8], at: usize) -> usize {
+    bytes(rt, out, at, b"\n")
 }

@@ -11,23 +11,23 @@ pub enum Went {
     Damaged(Fault),
 }
 
-fn reason(buf: &mut [u8], at: usize, f: Fault) -> usize {
+fn reason(rt: &impl Print, buf: &mut [u8], at: usize, f: Fault) -> usize {
     match f {
-        Fault::Cut => out::bytes(buf, at, b"the input ends inside it\n"),
-        Fault::Call => out::bytes(buf, at, b"no such call\n"),
-        Fault::Number => out::bytes(buf, at, b"a number does not fit\n"),
-        Fault::Stage => out::bytes(buf, at, b"no such stage\n"),
-        Fault::Length => out::bytes(buf, at, b"a memory is too long\n"),
-        Fault::Index => out::bytes(buf, at, b"an index is out of place\n"),
+        Fault::Cut => out::bytes(rt, buf, at, b"the input ends inside it\n"),
+        Fault::Call => out::bytes(rt, buf, at, b"no such call\n"),
+        Fault::Number => out::bytes(rt, buf, at, b"a number does not fit\n"),
+        Fault::Stage => out::bytes(rt, buf, at, b"no such stage\n"),
+        Fault::Length => out::bytes(rt, buf, at, b"a memory is too long\n"),
+        Fault::Index => out::bytes(rt, buf, at, b"an index is out of place\n"),
     }
 }
 
 // The line that a damaged vector stops the program with.
-fn stopped(buf: &mut [u8], at: usize, k: u64, f: Fault) -> usize {
-    let e = out::bytes(buf, at, b"vector");
-    let e = out::next_number(buf, e, k);
-    let e = out::bytes(buf, e, b" damaged: ");
-    reason(buf, e, f)
+fn stopped(rt: &impl Print, buf: &mut [u8], at: usize, k: u64, f: Fault) -> usize {
+    let e = out::bytes(rt, buf, at, b"vector");
+    let e = out::next_number(rt, buf, e, k);
+    let e = out::bytes(rt, buf, e, b" damaged: ");
+    reason(rt, buf, e, f)
 }
 
 // Where the next vector stands, and where the output ends.
@@ -38,7 +38,15 @@ pub struct Place {
 }
 
 // Where to go on after vector k, which stood at `base`; at `end` where it was damaged.
-pub fn settled(buf: &mut [u8], at: usize, k: u64, base: usize, end: usize, went: Went) -> Place
+pub fn settled(
+    rt: &impl Print,
+    buf: &mut [u8],
+    at: usize,
+    k: u64,
+    base: usize,
+    end: usize,
+    went: Went,
+) -> Place
     requires { base < end }
     ensures { base < result.base }
 {
@@ -51,7 +59,7 @@ pub fn settled(buf: &mut [u8], at: usize, k: u64, base: usize, end: usize, went:
             }
         }
         Went::Damaged(f) => {
-            let e = stopped(buf, at, k, f);
+            let e = stopped(rt, buf, at, k, f);
             Place { base: end, at: e }
         }
     }

@@ -1,5 +1,4 @@
 use Rattle.rewrite.proofs.AgainLaws.{few_records, again_refused, again_schedule}
-use borrow.Author.Rules.{rules}
 use Rattle.rewrite.proofs.again.again.Goals as goal
 
 pub schedule-requires : goal.schedule-requires

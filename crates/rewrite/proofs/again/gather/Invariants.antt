@@ -1,7 +1,5 @@
 use Prim.Native.Nat.{◌-◌}
-use Rattle.rewrite.proofs.AgainLaws.{cell_fits_lem, Gathered, gathered_none, gathered_next, gathered_all}
-use native.Mathlib.Omega.{arith}
-use borrow.Author.Rules.{rules}
+use Rattle.rewrite.proofs.AgainLaws.{Gathered}
 use Rattle.rewrite.proofs.again.gather.Given as goal
 
 abbrev pub invariant-loop-k : goal.invariant-loop-k

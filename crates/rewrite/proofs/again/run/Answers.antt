@@ -1,5 +1,4 @@
 use Rattle.rewrite.proofs.AgainLaws.{shows}
-use borrow.Author.Rules.{rules}
 use Rattle.rewrite.proofs.again.run.Goals as goal
 
 pub returns : goal.returns
