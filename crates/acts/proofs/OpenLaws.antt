@@ -11,10 +11,8 @@ use Rattle.numbers.specs.Cells.{processes_fit, cells_fit}
 use Rattle.numbers.specs.declared.Terms.{Terms}
 use Rattle.numbers.specs.Numbers.{directory_words, pool_words}
 use Rattle.refusals.specs.declared.Refusal.{Refusal}
-use Rattle.refusals.specs.declared.Refusal.TheVariants as Refusal
 use Rattle.steps.specs.Memory.{Memory, memory}
 use Rattle.acts.specs.declared.Opening.{Opening}
-use Rattle.acts.specs.declared.Opening.TheVariants as Opening
 use Rattle.acts.specs.declared.Opened.{Opened}
 use Rattle.acts.specs.Calls.{lengths_fit, opening_of, fresh, closed, open_of}
 

@@ -12,7 +12,6 @@ use borrow.Author.Tests.{lt-ltb, ltb-true}
 use Rattle.numbers.specs.Numbers.{most_processes, most_marks}
 use Rattle.logic.specs.Pick.{pick}
 use Rattle.refusals.specs.declared.Refusal.{Refusal}
-use Rattle.refusals.specs.declared.Refusal.TheVariants as Refusal
 use Rattle.numbers.specs.Cells.{cell_fits}
 use Rattle.numbers.specs.declared.Cell.{Cell}
 use Rattle.numbers.specs.declared.Terms.{Terms}
@@ -20,23 +19,18 @@ use Rattle.steps.specs.declared.Turn.{Turn}
 use Rattle.steps.specs.Inner.{handed}
 use Rattle.steps.specs.Steps.{turn_of}
 use Rattle.lanes.specs.declared.Check.{Check}
-use Rattle.lanes.specs.declared.Check.TheVariants as Check
 use Rattle.lanes.specs.declared.Op.{Op}
-use Rattle.lanes.specs.declared.Op.TheVariants as Op
 use Rattle.lanes.specs.declared.Lane.{Lane}
 use Rattle.lanes.specs.declared.State.{State}
 use Rattle.lanes.specs.Ranges.{rest, lane_of, marks_of, idle, check_fits, op_fits, sizes_fit, state_fits}
 use Rattle.lanes.specs.Laws.{sized, lane_ok, rest_fits_lem, sizes_of, lane_of_lem}
 use Rattle.lanes.specs.Scan.{Passed, passed_all}
 use Rattle.steps.specs.declared.Next.{Next}
-use Rattle.steps.specs.declared.Next.TheVariants as Next
 use Rattle.steps.specs.Memory.{Memory}
 use Rattle.acts.specs.declared.Ask.{Ask}
 use Rattle.acts.specs.declared.Answer.{Answer}
-use Rattle.acts.specs.declared.Answer.TheVariants as Answer
 use Rattle.acts.specs.declared.Acted.{Acted}
 use Rattle.acts.specs.declared.Verdict.{Verdict}
-use Rattle.acts.specs.declared.Verdict.TheVariants as Verdict
 use Rattle.acts.specs.declared.Stepped.{Stepped}
 use Rattle.acts.specs.Calls.{lengths_fit, cell_of, op_of, refused_as, with_op, answer_of, begun_of, begin_of, verdict_of, turn_in, step_by, step_of}
 use Rattle.acts.specs.Calls.{Effect, effect, effect_of, act_of, outcome, stepped_as, outcome_as}

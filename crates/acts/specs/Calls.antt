@@ -7,32 +7,24 @@ use Rattle.numbers.specs.declared.Cell.{Cell}
 use Rattle.numbers.specs.declared.Terms.{Terms}
 use Rattle.refusals.specs.Orders.{Rule, ◌gives◌, orders}
 use Rattle.refusals.specs.declared.Refusal.{Refusal}
-use Rattle.refusals.specs.declared.Refusal.TheVariants as Refusal
 use Rattle.lanes.specs.declared.Check.TheVariants as Check
 use Rattle.lanes.specs.declared.Op.{Op}
-use Rattle.lanes.specs.declared.Op.TheVariants as Op
 use Rattle.lanes.specs.declared.Lane.{Lane}
 use Rattle.lanes.specs.declared.State.{State}
 use Rattle.lanes.specs.Ranges.{rest, lane_of, marks_of, idle, lane_fits, state_fits}
 use Rattle.steps.specs.declared.Change.{Change}
 use Rattle.steps.specs.declared.Next.{Next}
-use Rattle.steps.specs.declared.Next.TheVariants as Next
 use Rattle.steps.specs.declared.Turn.{Turn}
-use Rattle.steps.specs.declared.Turn.TheVariants as Turn
 use Rattle.steps.specs.Memory.{Memory}
 use Rattle.steps.specs.Steps.{turn_of}
 use Rattle.steps.specs.Changes.{lane_after, top_after, memory_after}
 use Rattle.acts.specs.declared.Ask.{Ask}
-use Rattle.acts.specs.declared.Ask.TheVariants as Ask
 use Rattle.acts.specs.declared.Answer.{Answer}
-use Rattle.acts.specs.declared.Answer.TheVariants as Answer
 use Rattle.acts.specs.declared.Stepped.{Stepped}
 use Rattle.acts.specs.declared.Opening.{Opening}
-use Rattle.acts.specs.declared.Opening.TheVariants as Opening
 use Rattle.acts.specs.declared.Opened.{Opened}
 use Rattle.acts.specs.declared.Acted.{Acted}
 use Rattle.acts.specs.declared.Verdict.{Verdict}
-use Rattle.acts.specs.declared.Verdict.TheVariants as Verdict
 
 -- Lent memory: readings m, links m, directory 17p, pool 4m + 2p. Lengths are exact.
 abbrev pub lengths_fit : Terms → Memory → Bool

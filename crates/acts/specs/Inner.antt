@@ -7,16 +7,13 @@ use Rattle.numbers.specs.declared.Cell.{Cell}
 use Rattle.numbers.specs.declared.Terms.{Terms}
 use Rattle.logic.specs.Pick.{pick}
 use Rattle.lanes.specs.declared.Check.{Check}
-use Rattle.lanes.specs.declared.Check.TheVariants as Check
 use Rattle.lanes.specs.declared.Op.{Op}
-use Rattle.lanes.specs.declared.Op.TheVariants as Op
 use Rattle.lanes.specs.declared.Lane.{Lane}
 use Rattle.lanes.specs.Ranges.{lane_fits, sizes_fit}
 use Rattle.steps.specs.Memory.{Memory}
 use Rattle.steps.specs.Inner.{handed}
 use Rattle.steps.specs.Steps.{check, read_turn, asked_turn, checked_turn, op_turn}
 use Rattle.acts.specs.declared.Answer.{Answer}
-use Rattle.acts.specs.declared.Answer.TheVariants as Answer
 
 -- A process's lane; 0 where it has none.
 abbrev pub lane_at : ℕ → ℕ

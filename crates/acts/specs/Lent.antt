@@ -13,7 +13,6 @@ use Rattle.refusals.specs.declared.Refusal.TheVariants as Refusal
 use Rattle.lanes.specs.Ranges.{sizes_fit}
 use Rattle.steps.specs.Memory.{Memory}
 use Rattle.acts.specs.declared.Opening.{Opening}
-use Rattle.acts.specs.declared.Opening.TheVariants as Opening
 use Rattle.acts.specs.Calls.{lengths_fit, opening_of, opened_as, open_of}
 
 pub record Bounds (z : Terms) : Type 0 where

@@ -7,7 +7,6 @@ use Rattle.steps.specs.Memory.{Memory}
 use Rattle.acts.specs.declared.Ask.{Ask}
 use Rattle.acts.specs.declared.Answer.{Answer}
 use Rattle.acts.specs.declared.Opening.{Opening}
-use Rattle.acts.specs.declared.Opening.TheVariants as Opening
 use Rattle.acts.specs.Calls.{lengths_fit, open_of, begin_of, step_of}
 
 -- What an opening gives, what a beginning leaves and answers, and what a step does. S are the states.

@@ -1,5 +1,6 @@
 // The calls: what open, begin and step determine; open's refusals, and a begin on one lane.
 #![tactic(auto)]
+
 pub mod begins;
 pub mod opens;
 

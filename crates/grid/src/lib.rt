@@ -1,5 +1,6 @@
 // The grid: open it, begin an operation, take a step.
 #![tactic(auto)]
+
 ghost use Rattle.std.specs.Prelude.{◌≡◌};
 ghost use Rattle.steps.specs.Memory.{memory};
 ghost use Rattle.acts.specs.Calls.{outcome, open_of, begin_of, step_of};

@@ -16,25 +16,17 @@ use Rattle.logic.specs.Pick.{pick}
 use Rattle.numbers.specs.Cells.{cell_fits, mark_of, index_of}
 use Rattle.numbers.specs.declared.Terms.{Terms}
 use Rattle.lanes.specs.declared.Marking.{Marking}
-use Rattle.lanes.specs.declared.Marking.TheVariants as Marking
 use Rattle.steps.specs.Inner.{handed}
 use Rattle.lanes.specs.declared.Check.{Check}
-use Rattle.lanes.specs.declared.Check.TheVariants as Check
 use Rattle.lanes.specs.declared.Op.{Op}
-use Rattle.lanes.specs.declared.Op.TheVariants as Op
 use Rattle.lanes.specs.declared.Lane.{Lane}
 use Rattle.lanes.specs.Ranges.{idle, cell_in, place_in, place_fits, check_fits, rest_fits, op_fits, lane_fits, sizes_fit}
 use Rattle.lanes.specs.Laws.{sized, lane_ok, cell_fits_lem, rest_fits_lem}
 use Rattle.steps.specs.declared.Change.{Change}
-use Rattle.steps.specs.declared.Change.TheVariants as Change
 use Rattle.steps.specs.declared.Next.{Next}
-use Rattle.steps.specs.declared.Next.TheVariants as Next
 use Rattle.steps.specs.declared.Found.{Found}
-use Rattle.steps.specs.declared.Found.TheVariants as Found
 use Rattle.steps.specs.declared.Got.{Got}
-use Rattle.steps.specs.declared.Got.TheVariants as Got
 use Rattle.steps.specs.declared.Turn.{Turn}
-use Rattle.steps.specs.declared.Turn.TheVariants as Turn
 use Rattle.steps.specs.Memory.{Memory}
 use Rattle.steps.specs.Steps as Steps
 use Rattle.steps.specs.Changes.{lane_after, top_after}

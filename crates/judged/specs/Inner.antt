@@ -4,16 +4,11 @@ use Rattle.std.specs.Prelude.{ℕ, ◌≡◌, Bool, true, ◌&&◌, ltb, leb}
 use Rattle.numbers.specs.Numbers.{most_segments, most_steps, most_marks, pool_words}
 use Rattle.numbers.specs.declared.Terms.{Terms}
 use Rattle.lanes.specs.declared.Marking.{Marking}
-use Rattle.lanes.specs.declared.Marking.TheVariants as Marking
 use Rattle.lanes.specs.declared.Op.{Op}
-use Rattle.lanes.specs.declared.Op.TheVariants as Op
 use Rattle.lanes.specs.declared.Lane.{Lane}
 use Rattle.steps.specs.declared.Change.{Change}
-use Rattle.steps.specs.declared.Change.TheVariants as Change
 use Rattle.steps.specs.declared.Next.{Next}
-use Rattle.steps.specs.declared.Next.TheVariants as Next
 use Rattle.steps.specs.declared.Turn.{Turn}
-use Rattle.steps.specs.declared.Turn.TheVariants as Turn
 use Rattle.steps.specs.Changes.{lane_after, top_after}
 use Rattle.acts.specs.declared.Acted.{Acted}
 use Rattle.acts.specs.Calls.{advance, answer_of, numbers_fit}

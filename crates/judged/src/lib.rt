@@ -1,5 +1,6 @@
 // A step judged and carried out: its refusals, the lane and the top after it, and its answer.
 #![tactic(auto)]
+
 ghost use Rattle.std.specs.Prelude.{◌≡◌, ◌≤◌};
 ghost use Rattle.numbers.specs.Numbers.{most_steps};
 ghost use Rattle.steps.specs.Memory.{memory};

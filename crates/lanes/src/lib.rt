@@ -1,5 +1,6 @@
 // The state of a grid: its lanes, the operation under way in each, and the range of every number.
 #![tactic(auto)]
+
 ghost use Rattle.std.specs.Prelude.{◌≡◌};
 ghost use Rattle.lanes.specs.Ranges.{idle, cell_in, place_in, place_fits, link_fits, check_fits, rest_fits, lane_fits, sizes_fit};
 

@@ -9,7 +9,6 @@ use lib.ListN.{length, length-append}
 use Rattle.lists.specs.Lists.{gathered}
 use Rattle.lanes.specs.declared.State.{State}
 use Rattle.quiet.specs.declared.Quarter.{Quarter}
-use Rattle.quiet.specs.declared.Quarter.TheVariants as Quarter
 use Rattle.steps.specs.Memory.{Memory}
 use Rattle.byte_lists.specs.declared.Put.{Put}
 use Rattle.byte_lists.specs.Bytes.{word, decimal, placed, put_of, end_of}

@@ -13,12 +13,10 @@ use Rattle.logic.specs.Below.{below}
 use Rattle.logic.specs.BelowLaws.{below_fails, below_more}
 use Rattle.lanes.specs.declared.State.{State}
 use Rattle.quiet.specs.declared.Quarter.{Quarter}
-use Rattle.quiet.specs.declared.Quarter.TheVariants as Quarter
 use Rattle.steps.specs.Memory.{Memory}
 use Rattle.byte_lists.specs.Bytes.{word, decimal}
 use Rattle.byte_lists.specs.Decimals.{decimal_low, decimal_short, decimal_long, step_length}
 use Rattle.planners_text.specs.declared.cells.Measured.{Measured}
-use Rattle.planners_text.specs.declared.cells.Measured.TheVariants as Measured
 use Rattle.planners_text.specs.PlannersText.{crlf, header, line_of, line_as, quarter_at, lines_below, text_of, inside, words_fit}
 use Rattle.planners_text.specs.Inner.{Long, measured_of}
 

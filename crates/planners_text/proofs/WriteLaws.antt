@@ -17,9 +17,7 @@ use Rattle.quiet.specs.Quiet.{unfit, at_work, scan_of}
 use Rattle.byte_lists.specs.declared.Put.{Put}
 use Rattle.byte_lists.specs.Bytes.{placed, put_of, end_of}
 use Rattle.planners_text.specs.declared.Wrote.{Wrote}
-use Rattle.planners_text.specs.declared.Wrote.TheVariants as Wrote
 use Rattle.planners_text.specs.declared.cells.Measured.{Measured}
-use Rattle.planners_text.specs.declared.cells.Measured.TheVariants as Measured
 use Rattle.planners_text.specs.PlannersText.{header, lines_below, text_of, words_fit, Page, page, put_text, write_of}
 use Rattle.planners_text.specs.Inner.{Laid, measured_of}
 use Rattle.planners_text.proofs.LaidLaws.{laid_put, laid_length, laid_then}

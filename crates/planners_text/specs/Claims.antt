@@ -6,7 +6,6 @@ use Rattle.refusals.specs.declared.Refusal.{Refusal}
 use Rattle.lanes.specs.declared.State.{State}
 use Rattle.steps.specs.Memory.{Memory}
 use Rattle.planners_text.specs.declared.Wrote.{Wrote}
-use Rattle.planners_text.specs.declared.Wrote.TheVariants as Wrote
 use Rattle.planners_text.specs.PlannersText.{page, write_of}
 use Rattle.planners_text.specs.Sheet.{sheet_in, written_cells}
 

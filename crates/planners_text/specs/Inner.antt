@@ -6,7 +6,6 @@ use Rattle.lanes.specs.declared.State.{State}
 use Rattle.steps.specs.Memory.{Memory}
 use Rattle.byte_lists.specs.Bytes.{splice}
 use Rattle.planners_text.specs.declared.cells.Measured.{Measured}
-use Rattle.planners_text.specs.declared.cells.Measured.TheVariants as Measured
 use Rattle.planners_text.specs.PlannersText.{text_of, words_fit}
 
 -- A number is the length of some bytes, of which there are few.

@@ -7,13 +7,11 @@ use Rattle.logic.specs.Determined.{by_part}
 use Rattle.refusals.specs.Orders.{Rule, orders}
 use Rattle.logic.specs.Pick.{pick}
 use Rattle.refusals.specs.declared.Refusal.{Refusal}
-use Rattle.refusals.specs.declared.Refusal.TheVariants as Refusal
 use Rattle.lanes.specs.declared.State.{State}
 use Rattle.steps.specs.Memory.{Memory}
 use Rattle.byte_lists.specs.Bytes.{splice}
 use Rattle.byte_lists.specs.Places.{splice_length}
 use Rattle.planners_text.specs.declared.Wrote.{Wrote}
-use Rattle.planners_text.specs.declared.Wrote.TheVariants as Wrote
 use Rattle.planners_text.specs.PlannersText.{text_of, Page, page, put_text, text_refusals, write_of}
 use Rattle.planners_text.specs.Claims.{OneText, BytesAfterStay, RefusedText}
 

@@ -6,7 +6,6 @@ use Rattle.lists.specs.Lists.{gathered}
 use Rattle.logic.specs.Pick.{pick}
 use Rattle.lanes.specs.declared.State.{State}
 use Rattle.quiet.specs.declared.Quarter.{Quarter}
-use Rattle.quiet.specs.declared.Quarter.TheVariants as Quarter
 use Rattle.steps.specs.Memory.{Memory}
 use Rattle.byte_lists.specs.Bytes.{word}
 use Rattle.byte_lists.specs.Decimals.{read_onto}

@@ -1,5 +1,6 @@
 // A grid at rest as RFC 4180 text in a lent buffer, for a spreadsheet.
 #![tactic(auto)]
+
 ghost use Rattle.std.specs.Prelude.{◌≡◌, length};
 ghost use Rattle.steps.specs.Memory.{memory};
 ghost use Rattle.planners_text.specs.PlannersText.{text_of, page, put_text, write_of};

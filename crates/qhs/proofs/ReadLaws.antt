@@ -12,13 +12,10 @@ use Rattle.numbers.specs.Cells.{processes_fit, cells_fit}
 use Rattle.logic.specs.Below.{below}
 use Rattle.logic.specs.BelowLaws.{below_fails, below_next}
 use Rattle.refusals.specs.declared.Refusal.{Refusal}
-use Rattle.refusals.specs.declared.Refusal.TheVariants as Refusal
 use Rattle.qhs.specs.declared.Layout.{Layout}
 use Rattle.qhs.specs.declared.Header.{Header}
 use Rattle.qhs.specs.declared.Reading.{Reading}
-use Rattle.qhs.specs.declared.Reading.TheVariants as Reading
 use Rattle.qhs.specs.declared.Counts.{Counts}
-use Rattle.qhs.specs.declared.Counts.TheVariants as Counts
 use Rattle.qhs.specs.Qhs.{version1, most_bytes, most_file_cells, most_kind, marked, version_of, header_of, body_bytes, records_in}
 use Rattle.qhs.specs.Qhs.{record_in, kind_fits, counts_as, read_in, read_of}
 use Rattle.qhs.specs.Inner.{opened_as, records_as}

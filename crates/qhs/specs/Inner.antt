@@ -7,7 +7,6 @@ use Rattle.logic.specs.Pick.{pick}
 use Rattle.qhs.specs.declared.Layout.{Layout}
 use Rattle.qhs.specs.declared.Header.{Header}
 use Rattle.qhs.specs.declared.Reading.{Reading}
-use Rattle.qhs.specs.declared.Reading.TheVariants as Reading
 use Rattle.qhs.specs.Qhs.{version1, record_start, body_bytes, records_in, kinds_fit, open_refusals}
 
 -- How far a header or a record reaches at the most.

@@ -14,9 +14,7 @@ use Rattle.refusals.specs.declared.Refusal.{Refusal}
 use Rattle.qhs.specs.declared.Layout.{Layout}
 use Rattle.qhs.specs.declared.Header.{Header}
 use Rattle.qhs.specs.declared.Reading.{Reading}
-use Rattle.qhs.specs.declared.Reading.TheVariants as Reading
 use Rattle.qhs.specs.declared.Counts.{Counts}
-use Rattle.qhs.specs.declared.Counts.TheVariants as Counts
 use Rattle.qhs.specs.Qhs.{version1, most_bytes, most_records, most_file_cells, most_kind, marked, version_of, header_of, record_in}
 use Rattle.qhs.specs.Qhs.{body_bytes, records_in, kind_fits, kinds_fit, open_refusals, counts_as, file_refusals, read_in, read_of}
 use Rattle.qhs.specs.Inner.{Sound}

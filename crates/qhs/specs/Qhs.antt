@@ -7,14 +7,11 @@ use Rattle.numbers.specs.declared.Terms.{Terms}
 use Rattle.logic.specs.Below.{below}
 use Rattle.refusals.specs.Orders.{Rule, ◌gives◌, orders}
 use Rattle.refusals.specs.declared.Refusal.{Refusal}
-use Rattle.refusals.specs.declared.Refusal.TheVariants as Refusal
 use Rattle.qhs.specs.declared.Layout.{Layout}
 use Rattle.qhs.specs.declared.Header.{Header}
 use Rattle.qhs.specs.declared.Record.{Record}
 use Rattle.qhs.specs.declared.Reading.{Reading}
-use Rattle.qhs.specs.declared.Reading.TheVariants as Reading
 use Rattle.qhs.specs.declared.Counts.{Counts}
-use Rattle.qhs.specs.declared.Counts.TheVariants as Counts
 
 -- Version 1: a header of 24 bytes with a cell count of 2, first from 8, step from 12 and the fill from 16 on; then records of 8 bytes
 -- with a cell of 2 bytes and the value from 4 on.

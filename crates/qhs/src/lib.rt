@@ -1,5 +1,6 @@
 // The schedule file: its header and its records, or the refusal.
 #![tactic(auto)]
+
 ghost use Rattle.std.specs.Prelude.{◌≡◌, ◌≤◌, length};
 ghost use Rattle.logic.specs.Below.{below};
 ghost use Rattle.qhs.specs.Qhs.{marked, header_of, terms_of, record_at, kind_fits, counts_as, read_in, read_of};

@@ -11,15 +11,12 @@ use borrow.Author.Tests.{lt-ltb, le-ltb, le-leb, lt-leb, not-true, not-false}
 use Rattle.logic.specs.Below.{below}
 use Rattle.logic.specs.BelowLaws.{below_fails, below_next}
 use Rattle.refusals.specs.declared.Refusal.{Refusal}
-use Rattle.refusals.specs.declared.Refusal.TheVariants as Refusal
 use Rattle.qhs.specs.declared.Header.{Header}
 use Rattle.qhs.specs.declared.Counts.{Counts}
-use Rattle.qhs.specs.declared.Counts.TheVariants as Counts
 use Rattle.qhs.specs.Qhs.{most_bytes, most_records, most_file_cells, most_kind, counts_as}
 use Rattle.qhs.specs.Laws.{counted_as, counted}
 use Rattle.byte_lists.specs.Bytes.{splice}
 use Rattle.qhs_writer.specs.declared.Wrote.{Wrote}
-use Rattle.qhs_writer.specs.declared.Wrote.TheVariants as Wrote
 use Rattle.qhs_writer.specs.Writer.{header_bytes, record_bytes, Fields, count, head_bytes, entries_below, file_of, known, Page, page, write_of}
 use Rattle.qhs_writer.specs.Inner.{Laid, Few, filed_of}
 use Rattle.qhs_writer.specs.Sizes.{file_length}

@@ -2,7 +2,6 @@
 -- Assumes nothing.
 use Rattle.std.specs.Prelude.{ℕ, ◌^◌, ◌<◌, ◌≤◌, ◌≡◌, List, length, get_or, take, drop}
 use Rattle.refusals.specs.declared.Refusal.{Refusal}
-use Rattle.refusals.specs.declared.Refusal.TheVariants as Refusal
 use Rattle.qhs.specs.declared.Header.{Header}
 use Rattle.qhs.specs.declared.Reading.TheVariants as Reading
 use Rattle.qhs.specs.Qhs.{most_records, record_at, read_of}
@@ -10,7 +9,6 @@ use Rattle.qhs.specs.Laws.{Words}
 use Rattle.byte_lists.specs.Digits.{Bytes}
 use Rattle.byte_lists.specs.Bytes.{splice}
 use Rattle.qhs_writer.specs.declared.Wrote.{Wrote}
-use Rattle.qhs_writer.specs.declared.Wrote.TheVariants as Wrote
 use Rattle.qhs_writer.specs.Writer.{Fields, count, entry_at, needed, page, write_of}
 use Rattle.qhs_writer.specs.Again.{fields_of, read_as, zeroed}
 

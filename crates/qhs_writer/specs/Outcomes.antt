@@ -18,7 +18,6 @@ use Rattle.qhs.specs.Laws.{Counted, none_counted}
 use Rattle.byte_lists.specs.Bytes.{splice}
 use Rattle.byte_lists.specs.Places.{splice_length}
 use Rattle.qhs_writer.specs.declared.Wrote.{Wrote}
-use Rattle.qhs_writer.specs.declared.Wrote.TheVariants as Wrote
 use Rattle.qhs_writer.specs.Writer.{Fields, file_of, all_known, write_refusals, Page, page, write_of}
 use Rattle.qhs_writer.specs.Claims.{OneFile, OverLong, BytesAfterStay, RefusedFile}
 use Rattle.qhs_writer.specs.Sizes.{file_length}

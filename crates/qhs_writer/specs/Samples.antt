@@ -3,7 +3,6 @@
 use Rattle.std.specs.Prelude.{ℕ, ◌-◌, ◌^◌, ◌≡◌, refl, List, [], ◌∷◌, ◌++◌, replicate}
 use Rattle.logic.specs.Below.{below}
 use Rattle.refusals.specs.declared.Refusal.{Refusal}
-use Rattle.refusals.specs.declared.Refusal.TheVariants as Refusal
 use Rattle.qhs.specs.declared.Header.{Header}
 use Rattle.byte_lists.specs.Bytes.{word, splice, bytes_of}
 use Rattle.qhs_writer.specs.declared.Wrote.TheVariants as Wrote

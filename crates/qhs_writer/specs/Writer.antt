@@ -6,13 +6,11 @@ use Rattle.logic.specs.Below.{below}
 use Rattle.refusals.specs.Orders.{Rule, ◌gives◌, orders}
 use Rattle.logic.specs.Pick.{pick}
 use Rattle.refusals.specs.declared.Refusal.{Refusal}
-use Rattle.refusals.specs.declared.Refusal.TheVariants as Refusal
 use Rattle.qhs.specs.declared.Header.{Header}
 use Rattle.qhs.specs.Qhs.{version1, most_bytes, most_file_cells, most_kind, open_refusals}
 use Rattle.byte_lists.specs.Bytes.{word, splice}
 use Rattle.qhs_writer.specs.declared.Entry.{Entry}
 use Rattle.qhs_writer.specs.declared.Wrote.{Wrote}
-use Rattle.qhs_writer.specs.declared.Wrote.TheVariants as Wrote
 
 -- The writer's files are of version 1, with 16-bit cells.
 abbrev pub version : ℕ

@@ -10,7 +10,6 @@ use Rattle.logic.specs.BelowLaws.{below_all, below_at}
 use Rattle.logic.specs.Pick.{pick}
 use Rattle.qhs.specs.declared.Header.{Header}
 use Rattle.qhs.specs.declared.Reading.{Reading}
-use Rattle.qhs.specs.declared.Reading.TheVariants as Reading
 use Rattle.qhs.specs.Qhs.{version1, most_file_cells, most_kind, marked, version_of, header_of, fields_at, record_start}
 use Rattle.qhs.specs.Qhs.{record_in, record_at, body_bytes, records_in, kind_fits, kinds_fit, read_in, read_of}
 use Rattle.byte_lists.specs.Bytes.{number_at, bytes_of}

@@ -1,5 +1,6 @@
 // The schedule file's writer, version 1: a header and records as bytes in a lent buffer, or the refusal.
 #![tactic(auto)]
+
 ghost use Rattle.std.specs.Prelude.{◌≡◌, ◌≤◌, length};
 ghost use Rattle.logic.specs.Below.{below};
 ghost use Rattle.qhs_writer.specs.Writer.{fields, count, known, page, write_of};

@@ -14,20 +14,16 @@ use Rattle.logic.specs.Truth.{and_left}
 use Rattle.logic.specs.BelowLaws.{below_more}
 use Rattle.logic.specs.Pick.{pick}
 use Rattle.lanes.specs.declared.Check.{Check}
-use Rattle.lanes.specs.declared.Check.TheVariants as Check
 use Rattle.lanes.specs.declared.State.{State}
 use Rattle.lanes.specs.Ranges.{lane_of, marks_of, idle, lane_fits, sizes_fit, state_fits}
 use Rattle.lanes.specs.Scan.{Passed, passed_all}
 use Rattle.steps.specs.declared.Found.{Found}
-use Rattle.steps.specs.declared.Found.TheVariants as Found
 use Rattle.steps.specs.declared.Next.{Next}
-use Rattle.steps.specs.declared.Next.TheVariants as Next
 use Rattle.steps.specs.Memory.{Memory}
 use Rattle.steps.specs.Inner.{handed}
 use Rattle.acts.specs.Inner.{named_in, handed_check}
 use Rattle.steps.specs.Steps.{check, not_written_read, written_read}
 use Rattle.quiet.specs.declared.Quarter.{Quarter}
-use Rattle.quiet.specs.declared.Quarter.TheVariants as Quarter
 use Rattle.quiet.specs.declared.Scan.TheVariants as Scan
 use Rattle.quiet.specs.Quiet.{marks_at, onward, looked_at, quarter_of, reading_as, reading_at, at_rest, scan_of}
 

@@ -9,13 +9,10 @@ use Rattle.numbers.specs.Cells.{mark_of, index_of}
 use Rattle.numbers.specs.declared.Cell.{Cell}
 use Rattle.logic.specs.Pick.{pick}
 use Rattle.lanes.specs.declared.Check.{Check}
-use Rattle.lanes.specs.declared.Check.TheVariants as Check
 use Rattle.lanes.specs.declared.State.{State}
 use Rattle.lanes.specs.Ranges.{marks_of}
 use Rattle.steps.specs.declared.Got.{Got}
-use Rattle.steps.specs.declared.Got.TheVariants as Got
 use Rattle.steps.specs.declared.Found.{Found}
-use Rattle.steps.specs.declared.Found.TheVariants as Found
 use Rattle.steps.specs.Steps.{start_of, pool_word, check_mark}
 use Rattle.quiet.specs.Quiet.{marks_at, onward, looked_at}
 

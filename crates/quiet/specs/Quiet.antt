@@ -9,15 +9,11 @@ use Rattle.lanes.specs.declared.Check.TheVariants as Check
 use Rattle.lanes.specs.declared.State.{State}
 use Rattle.lanes.specs.Ranges.{lane_of, marks_of, idle, state_fits}
 use Rattle.steps.specs.declared.Found.{Found}
-use Rattle.steps.specs.declared.Found.TheVariants as Found
 use Rattle.steps.specs.declared.Next.{Next}
-use Rattle.steps.specs.declared.Next.TheVariants as Next
 use Rattle.steps.specs.Memory.{Memory}
 use Rattle.steps.specs.Steps.{check, not_written_read, written_read}
 use Rattle.quiet.specs.declared.Quarter.{Quarter}
-use Rattle.quiet.specs.declared.Quarter.TheVariants as Quarter
 use Rattle.quiet.specs.declared.Scan.{Scan}
-use Rattle.quiet.specs.declared.Scan.TheVariants as Scan
 
 -- No operation is under way in any lane below p.
 abbrev pub at_rest : State → Bool

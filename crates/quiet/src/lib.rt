@@ -1,5 +1,6 @@
 // A grid at rest: whether no operation is under way, and what each cell then holds.
 #![tactic(auto)]
+
 ghost use Rattle.std.specs.Prelude.{◌≡◌};
 ghost use Rattle.steps.specs.Memory.{memory};
 ghost use Rattle.acts.specs.Inner.{named_in};

@@ -12,7 +12,6 @@ use borrow.Author.Tests.{ltb-true, ltb-false}
 use Rattle.numbers.specs.Numbers.{offset_of}
 use Rattle.numbers.specs.declared.Place.{Place}
 use Rattle.steps.specs.declared.Change.{Change}
-use Rattle.steps.specs.declared.Change.TheVariants as Change
 use Rattle.steps.specs.Memory.{Memory, memory}
 use Rattle.steps.specs.Changes.{memory_after}
 use Rattle.steps.specs.Inner.{Part}

@@ -3,7 +3,6 @@
 use Rattle.std.specs.Prelude.{◌≡◌, refl}
 use Rattle.lanes.specs.declared.Lane.{Lane}
 use Rattle.steps.specs.declared.Change.{Change}
-use Rattle.steps.specs.declared.Change.TheVariants as Change
 use Rattle.steps.specs.Changes.{lane_after}
 
 -- A change leaves the count of the lane's steps.

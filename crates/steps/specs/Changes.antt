@@ -5,7 +5,6 @@ use Rattle.numbers.specs.Numbers.{offset_of}
 use Rattle.lanes.specs.declared.Lane.{Lane}
 use Rattle.lanes.specs.Ranges.{rest}
 use Rattle.steps.specs.declared.Change.{Change}
-use Rattle.steps.specs.declared.Change.TheVariants as Change
 use Rattle.steps.specs.Memory.{Memory, memory}
 
 -- A step can reach its process's lane, the pool's top and the lent memories.

@@ -9,22 +9,14 @@ use Rattle.numbers.specs.declared.Cell.{Cell}
 use Rattle.numbers.specs.declared.Place.{Place}
 use Rattle.numbers.specs.declared.Terms.{Terms}
 use Rattle.lanes.specs.declared.Marking.{Marking}
-use Rattle.lanes.specs.declared.Marking.TheVariants as Marking
 use Rattle.lanes.specs.declared.Op.{Op}
-use Rattle.lanes.specs.declared.Op.TheVariants as Op
 use Rattle.lanes.specs.declared.Lane.{Lane}
 use Rattle.steps.specs.declared.Word.{Word}
-use Rattle.steps.specs.declared.Word.TheVariants as Word
 use Rattle.steps.specs.declared.Change.{Change}
-use Rattle.steps.specs.declared.Change.TheVariants as Change
 use Rattle.steps.specs.declared.Next.{Next}
-use Rattle.steps.specs.declared.Next.TheVariants as Next
 use Rattle.steps.specs.declared.Found.{Found}
-use Rattle.steps.specs.declared.Found.TheVariants as Found
 use Rattle.steps.specs.declared.Got.{Got}
-use Rattle.steps.specs.declared.Got.TheVariants as Got
 use Rattle.steps.specs.declared.Turn.{Turn}
-use Rattle.steps.specs.declared.Turn.TheVariants as Turn
 use Rattle.steps.specs.Memory.{Memory}
 use Rattle.steps.specs.Steps as Steps
 use Rattle.steps.specs.Changes.{lane_after, top_after, memory_after}

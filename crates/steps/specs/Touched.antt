@@ -6,13 +6,9 @@ use Rattle.numbers.specs.Cells.{index_of}
 use Rattle.numbers.specs.declared.Cell.{Cell}
 use Rattle.numbers.specs.declared.Terms.{Terms}
 use Rattle.lanes.specs.declared.Check.{Check}
-use Rattle.lanes.specs.declared.Check.TheVariants as Check
 use Rattle.lanes.specs.declared.Marking.{Marking}
-use Rattle.lanes.specs.declared.Marking.TheVariants as Marking
 use Rattle.lanes.specs.declared.Op.{Op}
-use Rattle.lanes.specs.declared.Op.TheVariants as Op
 use Rattle.steps.specs.declared.Word.{Word}
-use Rattle.steps.specs.declared.Word.TheVariants as Word
 use Rattle.steps.specs.Memory.{Memory}
 use Rattle.steps.specs.Steps.{start_of}
 

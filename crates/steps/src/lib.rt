@@ -1,5 +1,6 @@
 // The step list: its definitions, what a step reads and where it stores.
 #![tactic(auto)]
+
 ghost use Rattle.std.specs.Prelude.{◌≡◌};
 ghost use Rattle.steps.specs.Steps.{not_written_read, written_read};
 

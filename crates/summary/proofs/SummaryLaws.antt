@@ -13,7 +13,6 @@ use Rattle.quiet.specs.declared.Quarter.{Quarter}
 use Rattle.quiet.specs.declared.Scan.{Scan}
 use Rattle.quiet.specs.Quiet.{unfit, at_work, reading_at, scan_of}
 use Rattle.summary.specs.declared.Summary.{Summary}
-use Rattle.summary.specs.declared.Summary.TheVariants as Summary
 use Rattle.summary.specs.Summary.{outside, four_from, quarters, written_among, summary_of}
 use Rattle.summary.specs.Inner.{summed, summary_as, four}
 

@@ -11,11 +11,9 @@ use borrow.Author.Tests.{lt-ltb, le-ltb, eq-eqb, ne_eqb}
 use lib.ListN.{length}
 use Rattle.refusals.specs.declared.Refusal.TheVariants as Refusal
 use Rattle.quiet.specs.declared.Quarter.{Quarter}
-use Rattle.quiet.specs.declared.Quarter.TheVariants as Quarter
 use Rattle.summary.specs.declared.Hour.{Hour}
 use Rattle.summary.specs.declared.Tally.{Tally}
 use Rattle.summary.specs.declared.Summary.{Summary}
-use Rattle.summary.specs.declared.Summary.TheVariants as Summary
 use Rattle.summary.specs.Summary.{greater, written_among}
 use Rattle.summary.specs.Inner.{tally_of, Few, Counts, Mean, hour_from, summed, four}
 

@@ -7,7 +7,6 @@ use Rattle.quiet.specs.declared.Quarter.{Quarter}
 use Rattle.summary.specs.declared.Hour.{Hour}
 use Rattle.summary.specs.declared.Tally.{Tally}
 use Rattle.summary.specs.declared.Summary.{Summary}
-use Rattle.summary.specs.declared.Summary.TheVariants as Summary
 use Rattle.summary.specs.Summary.{greatest, sum_of, hour_of, any_outside, counted, written_among}
 
 -- What is kept of some readings.

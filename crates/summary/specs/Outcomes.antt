@@ -1,7 +1,7 @@
 -- The proofs of the claims.
 -- Assumes nothing.
 use Rattle.std.specs.Prelude.{ℕ, ◌*◌, ◌≡◌, refl, Bool, ◌&&◌, List, [], ◌∷◌}
-use Rattle.std.proofs.Common.{sym, ap, ◌∙◌}
+use Rattle.std.proofs.Common.{ap, ◌∙◌}
 use Rattle.numbers.specs.Cells.{cell_at}
 use Rattle.numbers.specs.declared.Cell.{Cell}
 use Rattle.numbers.specs.declared.Terms.{Terms}
@@ -9,14 +9,11 @@ use Rattle.logic.specs.Below.{below}
 use Rattle.logic.specs.Determined.{by_equation}
 use Rattle.logic.specs.Pick.{pick}
 use Rattle.lanes.specs.declared.Check.{Check}
-use Rattle.lanes.specs.declared.Check.TheVariants as Check
 use Rattle.lanes.specs.declared.Op.{Op}
-use Rattle.lanes.specs.declared.Op.TheVariants as Op
 use Rattle.lanes.specs.declared.Lane.{Lane}
 use Rattle.lanes.specs.declared.State.{State}
 use Rattle.lanes.specs.Ranges.{lane_of, check_fits, rest_fits, lane_fits, sizes_fit}
 use Rattle.steps.specs.declared.Found.{Found}
-use Rattle.steps.specs.declared.Found.TheVariants as Found
 use Rattle.steps.specs.Memory.{Memory}
 use Rattle.quiet.specs.declared.Scan.TheVariants as Scan
 use Rattle.quiet.specs.Quiet.{at_rest, scan_of, onward, looked_at, reading_as}

@@ -10,11 +10,9 @@ use Rattle.lanes.specs.declared.State.{State}
 use Rattle.steps.specs.Memory.{Memory}
 use Rattle.acts.specs.Calls.{lengths_fit}
 use Rattle.quiet.specs.declared.Quarter.{Quarter}
-use Rattle.quiet.specs.declared.Quarter.TheVariants as Quarter
 use Rattle.quiet.specs.Quiet.{unfit, at_work, reading_at, scan_of}
 use Rattle.summary.specs.declared.Hour.{Hour}
 use Rattle.summary.specs.declared.Summary.{Summary}
-use Rattle.summary.specs.declared.Summary.TheVariants as Summary
 
 -- Peak is the greatest of the readings, mean = floor(sum / how many), and the summary says how many there were.
 abbrev pub greater : ℕ → ℕ → ℕ

@@ -1,5 +1,6 @@
 // The hour summary: peak and mean of the written quarters of an hour, and how many they are, on a grid at rest.
 #![tactic(auto)]
+
 ghost use Rattle.std.specs.Prelude.{◌≡◌, ◌+◌, ◌/◌, ◌<◌};
 ghost use Rattle.steps.specs.Memory.{memory};
 ghost use Rattle.quiet.specs.declared.Quarter.TheVariants as Quarter;

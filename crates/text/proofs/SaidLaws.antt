@@ -9,13 +9,12 @@ use lib.ListN.{length, length-append}
 use Rattle.refusals.specs.Numbers.{number_of}
 use Rattle.refusals.specs.declared.Refusal.{Refusal}
 use Rattle.acts.specs.declared.Answer.{Answer}
-use Rattle.acts.specs.declared.Answer.TheVariants as Answer
 use Rattle.text.specs.Text.{bit, two, three, saying, answer_line, sizes_line, file_refused_line, refused_line}
 use Rattle.byte_lists.specs.Bytes.{word, newline, decimal}
 use Rattle.byte_lists.specs.Decimals.{decimal_short}
 use Rattle.byte_lists.specs.declared.line.Line.{Line}
 use Rattle.text.specs.Inner.{Said, Answered}
-use Rattle.byte_lists.specs.Lines.{cut, Grown, Made}
+use Rattle.byte_lists.specs.Lines.{Grown, Made}
 use Rattle.byte_lists.proofs.MadeLaws.{made}
 use Rattle.byte_lists.proofs.LineLaws.{then}
 

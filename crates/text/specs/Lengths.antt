@@ -1,6 +1,6 @@
 -- How long the program's lines are.
 -- Assumes nothing.
-use Rattle.std.specs.Prelude.{ℕ, ◌+◌, ◌<◌, ◌≤◌, ◌++◌, length}
+use Rattle.std.specs.Prelude.{ℕ, ◌<◌, ◌≤◌, ◌++◌, length}
 use Rattle.std.proofs.Common.{arith, length-append}
 use Rattle.refusals.specs.Numbers.{number_of}
 use Rattle.refusals.specs.Laws.{number_below}

@@ -1,10 +1,9 @@
 -- The program's lines as bytes: the line of each answer, and the lines of a whole output.
 -- Assumes nothing.
-use Rattle.std.specs.Prelude.{ℕ, ◌+◌, Bool, true, false, List, ◌++◌}
+use Rattle.std.specs.Prelude.{ℕ, Bool, true, false, List, ◌++◌}
 use Rattle.refusals.specs.Numbers.{number_of}
 use Rattle.refusals.specs.declared.Refusal.{Refusal}
 use Rattle.acts.specs.declared.Answer.{Answer}
-use Rattle.acts.specs.declared.Answer.TheVariants as Answer
 use Rattle.byte_lists.specs.Bytes.{word, newline, decimal}
 
 -- One of: begun; going; read V B N (B is 1 if the cell is written, 0 if not); written N; asked B N; refused R. N is the operation's

@@ -1,5 +1,6 @@
 // The program's lines into a lent buffer: an answer's, and those of a whole output.
 #![tactic(auto)]
+
 ghost use Rattle.std.specs.Prelude.{◌≡◌, ◌+◌, ◌≤◌, length};
 ghost use Rattle.byte_lists.specs.Bytes.{decimal, placed, put_of};
 ghost use Rattle.text.specs.Text.{answer_line, sizes_line, file_refused_line, refused_line};

@@ -14,23 +14,16 @@ use Rattle.numbers.specs.declared.Cell.{Cell}
 use Rattle.numbers.specs.declared.Place.{Place}
 use Rattle.numbers.specs.declared.Terms.{Terms}
 use Rattle.lanes.specs.declared.Check.{Check}
-use Rattle.lanes.specs.declared.Check.TheVariants as Check
 use Rattle.lanes.specs.declared.Marking.{Marking}
-use Rattle.lanes.specs.declared.Marking.TheVariants as Marking
 use Rattle.lanes.specs.declared.Op.{Op}
-use Rattle.lanes.specs.declared.Op.TheVariants as Op
 use Rattle.lanes.specs.declared.Lane.{Lane}
 use Rattle.lanes.specs.Ranges.{place_in, place_fits, lane_fits, sizes_fit}
 use Rattle.lanes.specs.Laws.{Sized, sized, lane_ok, rest_fits_lem}
 use Rattle.steps.specs.declared.Got.{Got}
-use Rattle.steps.specs.declared.Got.TheVariants as Got
 use Rattle.steps.specs.declared.Found.{Found}
-use Rattle.steps.specs.declared.Found.TheVariants as Found
 use Rattle.steps.specs.declared.Change.TheVariants as Change
 use Rattle.steps.specs.declared.Next.{Next}
-use Rattle.steps.specs.declared.Next.TheVariants as Next
 use Rattle.steps.specs.declared.Turn.{Turn}
-use Rattle.steps.specs.declared.Turn.TheVariants as Turn
 use Rattle.steps.specs.Memory.{Memory}
 use Rattle.steps.specs.Steps.{not_written_read, written_read, goes, marks, start_of, pool_word, tombstone_first, marking_at, marking_next, entered}
 use Rattle.steps.specs.Steps.{read_turn, asked_turn, checked_turn, draw_turn, enter_turn, put_turn, swap_turn, marking_turn, found, op_turn}

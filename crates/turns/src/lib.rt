@@ -1,5 +1,6 @@
 // One step of an operation, as the step list says: the word that it changes, and what comes next.
 #![tactic(auto)]
+
 ghost use Rattle.std.specs.Prelude.{◌≡◌, true};
 ghost use Rattle.lanes.specs.Ranges.{lane_fits, sizes_fit};
 ghost use Rattle.steps.specs.Memory.{memory};

@@ -1,9 +1,7 @@
 use mathlib.Core.Path.{refl}
-use Prim.Native.Nat.{◌≤◌, ◌-◌}
 use native.Mathlib.Omega.{arith}
-use Rattle.lanes.specs.Scan.{Passed, passed_none, passed_more, few_lanes}
+use Rattle.lanes.specs.Scan.{passed_none, passed_more}
 use Rattle.acts.proofs.StateLaws.{loop_end, begun_is}
-use borrow.Author.Rules.{rules}
 use Rattle.grid.proofs.begin.Goals as goal
 
 pub loop-i-init : goal.loop-i-init

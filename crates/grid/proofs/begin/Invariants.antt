@@ -1,9 +1,5 @@
-use mathlib.Core.Path.{refl}
 use Prim.Native.Nat.{◌≤◌, ◌-◌}
-use native.Mathlib.Omega.{arith}
-use Rattle.lanes.specs.Scan.{Passed, passed_none, passed_more, few_lanes}
-use Rattle.acts.proofs.StateLaws.{loop_end, begun_is}
-use borrow.Author.Rules.{rules}
+use Rattle.lanes.specs.Scan.{Passed}
 use Rattle.grid.proofs.begin.Given as goal
 
 abbrev pub invariant-loop-i : goal.invariant-loop-i

@@ -1,6 +1,5 @@
-use Rattle.judged.proofs.ActLaws.{judged_9, judged_8, judged_4, judged_7, judged_on, sizes_known, lane_known, told_known}
+use Rattle.judged.proofs.ActLaws.{judged_9, judged_8, judged_4, judged_7, judged_on, told_known}
 use Rattle.std.proofs.Common.{ap, not}
-use borrow.Author.Rules.{rules}
 use Rattle.judged.proofs.verdict_of.Goals as goal
 
 pub returns-then-not-fits : goal.returns-then-not-fits

@@ -1,5 +1,4 @@
-use Rattle.planners_text.proofs.WriteLaws.{put_none, lines_room, put_all}
-use borrow.Author.Rules.{rules}
+use Rattle.planners_text.proofs.WriteLaws.{lines_room, put_all}
 use Rattle.planners_text.proofs.put_text.Goals as goal
 
 pub put_lines-end-requires : goal.put_lines-end-requires

@@ -1,5 +1,4 @@
-use Rattle.planners_text.proofs.WriteLaws.{write_9, write_8, write_10, write_9_word, write_text, measured_length}
-use borrow.Author.Rules.{rules}
+use Rattle.planners_text.proofs.WriteLaws.{write_9, write_8, write_10, write_9_word, write_text}
 use Rattle.planners_text.proofs.write_text.Goals as goal
 
 pub returns-then-unfit : goal.returns-then-unfit

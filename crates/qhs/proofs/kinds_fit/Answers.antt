@@ -1,8 +1,6 @@
 use Rattle.qhs.proofs.FieldLaws.{kind_there}
-use Rattle.qhs.proofs.ReadLaws.{Known, known_none, known_next, known_all, unknown}
-use Prim.Native.Nat.{◌≤◌, ◌-◌}
+use Rattle.qhs.proofs.ReadLaws.{known_none, known_next, unknown}
 use native.Mathlib.Omega.{arith}
-use borrow.Author.Rules.{rules}
 use Rattle.qhs.proofs.kinds_fit.Goals as goal
 
 pub loop-k-init : goal.loop-k-init

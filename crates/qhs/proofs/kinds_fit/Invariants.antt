@@ -1,8 +1,5 @@
-use Rattle.qhs.proofs.FieldLaws.{kind_there}
-use Rattle.qhs.proofs.ReadLaws.{Known, known_none, known_next, known_all, unknown}
+use Rattle.qhs.proofs.ReadLaws.{Known}
 use Prim.Native.Nat.{◌≤◌, ◌-◌}
-use native.Mathlib.Omega.{arith}
-use borrow.Author.Rules.{rules}
 use Rattle.qhs.proofs.kinds_fit.Given as goal
 
 abbrev pub invariant-loop-k : goal.invariant-loop-k

@@ -1,5 +1,4 @@
 use Rattle.qhs.proofs.ReadLaws.{too_long, too_short, unmarked, other_version, many_cells, left_to_records}
-use borrow.Author.Rules.{rules}
 use Rattle.qhs.proofs.read_in.Goals as goal
 
 pub returns-then-bytes-gt-FILE_BYTES : goal.returns-then-bytes-gt-FILE_BYTES

@@ -1,6 +1,5 @@
 use Rattle.qhs.specs.Qhs.{version1}
 use Rattle.qhs.proofs.FieldLaws.{record_there}
-use borrow.Author.Rules.{rules}
 use Rattle.qhs.proofs.record_at.Goals as goal
 
 pub returns : goal.returns

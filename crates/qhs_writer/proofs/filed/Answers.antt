@@ -1,5 +1,4 @@
 use Rattle.qhs_writer.proofs.WriteLaws.{no_room, written}
-use borrow.Author.Rules.{rules}
 use Rattle.qhs_writer.proofs.filed.Goals as goal
 
 pub returns-then-out-n : goal.returns-then-out-n

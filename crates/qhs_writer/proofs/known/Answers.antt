@@ -1,5 +1,4 @@
-use Prim.Native.Nat.{◌≤◌, ◌-◌}
-use Rattle.qhs_writer.proofs.WriteLaws.{Known, known_none, known_next, known_not, known_all}
+use Rattle.qhs_writer.proofs.WriteLaws.{known_none, known_next, known_not}
 use native.Mathlib.Omega.{arith}
 use Rattle.qhs_writer.proofs.known.Goals as goal
 

@@ -1,6 +1,5 @@
 use Prim.Native.Nat.{◌≤◌, ◌-◌}
-use Rattle.qhs_writer.proofs.WriteLaws.{Known, known_none, known_next, known_not, known_all}
-use native.Mathlib.Omega.{arith}
+use Rattle.qhs_writer.proofs.WriteLaws.{Known}
 use Rattle.qhs_writer.proofs.known.Given as goal
 
 abbrev pub invariant-loop-k : goal.invariant-loop-k

@@ -1,5 +1,4 @@
 use Rattle.qhs_writer.proofs.WriteLaws.{too_long, many_cells, unknown_kind, not_counted, left_to_room}
-use borrow.Author.Rules.{rules}
 use Rattle.qhs_writer.proofs.write.Goals as goal
 
 pub returns-then-n-gt-FILE_RECORDS : goal.returns-then-n-gt-FILE_RECORDS

@@ -1,5 +1,4 @@
 use Rattle.quiet.proofs.QuietLaws.{looked_is}
-use borrow.Author.Rules.{rules}
 use Rattle.quiet.proofs.looked_at.Goals as goal
 
 pub returns : goal.returns

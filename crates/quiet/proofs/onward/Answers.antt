@@ -1,5 +1,4 @@
-use Rattle.quiet.proofs.QuietLaws.{onward_arm, onward_on}
-use borrow.Author.Rules.{rules}
+use Rattle.quiet.proofs.QuietLaws.{onward_on}
 use Rattle.quiet.proofs.onward.Goals as goal
 
 pub returns-in-On : goal.returns-in-On

@@ -1,8 +1,6 @@
 use Prim.Native.Nat.{◌≤◌, ◌-◌}
-use native.Mathlib.Omega.{arith}
-use borrow.Author.Rules.{rules}
-use Rattle.lanes.specs.Scan.{Passed, passed_none, passed_more, few_lanes}
-use Rattle.quiet.proofs.QuietLaws.{Calm, calm_none, calm_more, is_unfit, is_at_rest, is_at_work}
+use Rattle.lanes.specs.Scan.{Passed}
+use Rattle.quiet.proofs.QuietLaws.{Calm}
 use Rattle.quiet.proofs.scan_of.Given as goal
 
 abbrev pub invariant-loop-i : goal.invariant-loop-i

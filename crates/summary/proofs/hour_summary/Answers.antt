@@ -1,5 +1,4 @@
 use Rattle.summary.proofs.SummaryLaws.{summary_9, summary_8, summary_10, summary_5, summary_of_lem}
-use borrow.Author.Rules.{rules}
 use Rattle.summary.proofs.hour_summary.Goals as goal
 
 pub returns-then-unfit : goal.returns-then-unfit

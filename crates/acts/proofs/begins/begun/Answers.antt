@@ -1,5 +1,4 @@
 use Rattle.acts.proofs.BeginLaws.{begun_9, begun_4, begun_6, begun_5, begun_on}
-use borrow.Author.Rules.{rules}
 use Rattle.acts.proofs.begins.begun.Goals as goal
 
 pub returns-then-not-fits : goal.returns-then-not-fits

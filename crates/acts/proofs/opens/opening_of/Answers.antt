@@ -1,5 +1,4 @@
 use Rattle.acts.proofs.OpenLaws.{no_processes, no_cells, lengths_right, lengths_wrong}
-use borrow.Author.Rules.{rules}
 use Rattle.acts.proofs.opens.opening_of.Goals as goal
 
 pub returns-then-not-processes_fit : goal.returns-then-not-processes_fit

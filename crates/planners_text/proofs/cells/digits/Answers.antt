@@ -1,5 +1,4 @@
-use native.Mathlib.Omega.{arith}
-use Rattle.planners_text.proofs.SizeLaws.{Counted, counted_start, counted_next, counted_end}
+use Rattle.planners_text.proofs.SizeLaws.{counted_start, counted_next, counted_end}
 use Rattle.planners_text.proofs.cells.digits.Goals as goal
 
 pub loop-rest-init : goal.loop-rest-init

@@ -1,5 +1,4 @@
-use native.Mathlib.Omega.{arith}
-use Rattle.planners_text.proofs.SizeLaws.{Counted, counted_start, counted_next, counted_end}
+use Rattle.planners_text.proofs.SizeLaws.{Counted}
 use Rattle.planners_text.proofs.cells.digits.Given as goal
 
 abbrev pub invariant-loop-rest : goal.invariant-loop-rest

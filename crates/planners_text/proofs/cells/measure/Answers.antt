@@ -1,8 +1,4 @@
-use Prim.Native.Nat.{◌-◌}
-use native.Mathlib.Omega.{arith}
-use borrow.Author.Rules.{rules}
-use Rattle.steps.specs.Memory.{memory}
-use Rattle.planners_text.proofs.SizeLaws.{Measuring, measuring_start, measuring_outside, measuring_next, measuring_end}
+use Rattle.planners_text.proofs.SizeLaws.{measuring_start, measuring_outside, measuring_next, measuring_end}
 use Rattle.planners_text.proofs.cells.measure.Goals as goal
 
 pub loop-i-init : goal.loop-i-init

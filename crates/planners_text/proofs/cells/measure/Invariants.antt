@@ -1,8 +1,6 @@
 use Prim.Native.Nat.{◌-◌}
-use native.Mathlib.Omega.{arith}
-use borrow.Author.Rules.{rules}
 use Rattle.steps.specs.Memory.{memory}
-use Rattle.planners_text.proofs.SizeLaws.{Measuring, measuring_start, measuring_outside, measuring_next, measuring_end}
+use Rattle.planners_text.proofs.SizeLaws.{Measuring}
 use Rattle.planners_text.proofs.cells.measure.Given as goal
 
 abbrev pub invariant-loop-i : goal.invariant-loop-i

@@ -1,5 +1,4 @@
-use Rattle.planners_text.proofs.LaidLaws.{as_outside, as_none, as_written, cell_room}
-use borrow.Author.Rules.{rules}
+use Rattle.planners_text.proofs.LaidLaws.{as_outside, as_none}
 use Rattle.planners_text.proofs.cells.put_as.Goals as goal
 
 pub returns-in-Outside : goal.returns-in-Outside

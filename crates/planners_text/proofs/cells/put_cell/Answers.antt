@@ -1,5 +1,4 @@
 use Rattle.planners_text.proofs.LaidLaws.{laid_line}
-use borrow.Author.Rules.{rules}
 use Rattle.planners_text.proofs.cells.put_cell.Goals as goal
 
 pub returns : goal.returns

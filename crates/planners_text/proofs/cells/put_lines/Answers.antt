@@ -1,8 +1,4 @@
-use Prim.Native.Nat.{◌-◌}
-use native.Mathlib.Omega.{arith}
-use borrow.Author.Rules.{rules}
-use Rattle.steps.specs.Memory.{memory}
-use Rattle.planners_text.proofs.LaidLaws.{Laying, laying_start, laying_room, laying_next, laying_end}
+use Rattle.planners_text.proofs.LaidLaws.{laying_start, laying_room, laying_next}
 use Rattle.planners_text.proofs.cells.put_lines.Goals as goal
 
 pub loop-i-init : goal.loop-i-init

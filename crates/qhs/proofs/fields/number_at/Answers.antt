@@ -1,4 +1,4 @@
-use Rattle.qhs.proofs.FieldLaws.{Gathered, gathered_none, room, gathered_next, gathered_all, gathered_below}
+use Rattle.qhs.proofs.FieldLaws.{gathered_none, room, gathered_next}
 use native.Mathlib.Omega.{arith}
 use borrow.Author.Rules.{rules}
 use Rattle.qhs.proofs.fields.number_at.Goals as goal

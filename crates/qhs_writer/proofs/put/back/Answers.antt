@@ -1,5 +1,4 @@
 use Rattle.qhs_writer.proofs.LaidLaws.{back_laid}
-use borrow.Author.Rules.{rules}
 use Rattle.qhs_writer.proofs.put.back.Goals as goal
 
 pub returns : goal.returns

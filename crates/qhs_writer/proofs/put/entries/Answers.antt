@@ -1,8 +1,4 @@
-use Prim.Native.Nat.{◌-◌}
-use Rattle.qhs_writer.specs.Writer.{fields}
-use Rattle.qhs_writer.proofs.LaidLaws.{Laying, laying_none, laying_room, laying_next, laying_all}
-use native.Mathlib.Omega.{arith}
-use borrow.Author.Rules.{rules}
+use Rattle.qhs_writer.proofs.LaidLaws.{laying_none, laying_next}
 use Rattle.qhs_writer.proofs.put.entries.Goals as goal
 
 pub loop-k-init : goal.loop-k-init

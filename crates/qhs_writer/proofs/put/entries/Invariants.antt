@@ -1,8 +1,6 @@
 use Prim.Native.Nat.{◌-◌}
 use Rattle.qhs_writer.specs.Writer.{fields}
-use Rattle.qhs_writer.proofs.LaidLaws.{Laying, laying_none, laying_room, laying_next, laying_all}
-use native.Mathlib.Omega.{arith}
-use borrow.Author.Rules.{rules}
+use Rattle.qhs_writer.proofs.LaidLaws.{Laying}
 use Rattle.qhs_writer.proofs.put.entries.Given as goal
 
 abbrev pub invariant-loop-k : goal.invariant-loop-k

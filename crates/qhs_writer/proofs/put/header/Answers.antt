@@ -1,5 +1,4 @@
 use Rattle.qhs_writer.proofs.LaidLaws.{header_laid}
-use borrow.Author.Rules.{rules}
 use Rattle.qhs_writer.proofs.put.header.Goals as goal
 
 pub returns : goal.returns

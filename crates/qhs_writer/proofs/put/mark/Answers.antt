@@ -1,5 +1,4 @@
 use Rattle.qhs_writer.proofs.LaidLaws.{mark_laid}
-use borrow.Author.Rules.{rules}
 use Rattle.qhs_writer.proofs.put.mark.Goals as goal
 
 pub returns : goal.returns

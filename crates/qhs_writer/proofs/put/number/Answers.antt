@@ -1,7 +1,4 @@
-use Prim.Native.Nat.{◌-◌}
-use Rattle.qhs_writer.proofs.LaidLaws.{Numbered, numbered_none, numbered_next, numbered_all}
-use native.Mathlib.Omega.{arith}
-use borrow.Author.Rules.{rules}
+use Rattle.qhs_writer.proofs.LaidLaws.{numbered_none, numbered_next}
 use Rattle.qhs_writer.proofs.put.number.Goals as goal
 
 pub loop-i-init : goal.loop-i-init

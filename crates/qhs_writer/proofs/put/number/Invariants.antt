@@ -1,7 +1,5 @@
 use Prim.Native.Nat.{◌-◌}
-use Rattle.qhs_writer.proofs.LaidLaws.{Numbered, numbered_none, numbered_next, numbered_all}
-use native.Mathlib.Omega.{arith}
-use borrow.Author.Rules.{rules}
+use Rattle.qhs_writer.proofs.LaidLaws.{Numbered}
 use Rattle.qhs_writer.proofs.put.number.Given as goal
 
 abbrev pub invariant-loop-i : goal.invariant-loop-i

@@ -1,5 +1,4 @@
-use Rattle.steps.proofs.LookLaws.{part_huge, part_end, part_cut}
-use borrow.Author.Rules.{rules}
+use Rattle.steps.proofs.LookLaws.{part_huge, part_end}
 use Rattle.steps.proofs.look.part_end.Goals as goal
 
 pub returns-then-s-ge63 : goal.returns-then-s-ge63

@@ -1,5 +1,4 @@
-use Rattle.steps.proofs.StoreLaws.{put_part, put_past}
-use borrow.Author.Rules.{rules}
+use Rattle.steps.proofs.StoreLaws.{put_part}
 use Rattle.steps.proofs.store.put_mark.Goals as goal
 
 pub returns-then-from-pool : goal.returns-then-from-pool

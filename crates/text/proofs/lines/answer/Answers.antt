@@ -1,5 +1,4 @@
 use Rattle.text.proofs.SaidLaws.{answered}
-use borrow.Author.Rules.{rules}
 use Rattle.text.proofs.lines.answer.Goals as goal
 
 pub returns : goal.returns

@@ -1,5 +1,4 @@
 use Rattle.text.proofs.SaidLaws.{file_refused_is}
-use borrow.Author.Rules.{rules}
 use Rattle.text.proofs.lines.file_refused.Goals as goal
 
 pub returns : goal.returns

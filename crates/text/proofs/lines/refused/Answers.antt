@@ -1,5 +1,4 @@
 use Rattle.text.proofs.SaidLaws.{refused_is}
-use borrow.Author.Rules.{rules}
 use Rattle.text.proofs.lines.refused.Goals as goal
 
 pub returns : goal.returns

@@ -1,5 +1,4 @@
-use Rattle.text.proofs.SaidLaws.{said_begun, said_going, said_read, said_written, said_asked, said_refused}
-use borrow.Author.Rules.{rules}
+use Rattle.text.proofs.SaidLaws.{said_read, said_written, said_asked, said_refused}
 use Rattle.text.proofs.lines.said.Goals as goal
 
 pub returns-in-Read : goal.returns-in-Read

@@ -1,5 +1,4 @@
 use Rattle.text.proofs.SaidLaws.{sizes_is}
-use borrow.Author.Rules.{rules}
 use Rattle.text.proofs.lines.sizes.Goals as goal
 
 pub returns : goal.returns

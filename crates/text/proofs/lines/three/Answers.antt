@@ -1,5 +1,4 @@
 use Rattle.text.proofs.SaidLaws.{three_is}
-use borrow.Author.Rules.{rules}
 use Rattle.text.proofs.lines.three.Goals as goal
 
 pub returns : goal.returns

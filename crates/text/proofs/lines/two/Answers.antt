@@ -1,5 +1,4 @@
 use Rattle.text.proofs.SaidLaws.{two_is}
-use borrow.Author.Rules.{rules}
 use Rattle.text.proofs.lines.two.Goals as goal
 
 pub returns : goal.returns

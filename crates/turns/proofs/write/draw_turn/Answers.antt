@@ -1,5 +1,4 @@
 use Rattle.turns.proofs.WriteLaws.{drawn_word, drawn_byte, draw_top, draw_wide, drawn_is}
-use borrow.Author.Rules.{rules}
 use Rattle.turns.proofs.write.draw_turn.Goals as goal
 
 pub overflow_add-raised : goal.overflow_add-raised
