@@ -4,7 +4,7 @@ use Rattle.std.specs.Prelude.{ℕ, suc, ◌+◌, ◌^◌, ◌≤◌, ◌<◌, �
 use Rattle.std.proofs.Math.Decide.{dec_lt}
 use Rattle.std.proofs.Common.{add-one, arith, pow_mono}
 use Rattle.numbers.specs.Numbers.{most_cells, most_segments, segment_of, offset_of, directory_word, process_of, place_of, fill_of, tombstone}
-use Rattle.numbers.specs.Laws.{segment_bounds, place_at}
+use Rattle.numbers.proofs.Laws.{segment_bounds, place_at}
 use Rattle.lanes.specs.Ranges.{lane_of}
 use Rattle.theory.specs.Interface as Theory
 use Rattle.numbers.specs.Cells.{mark_of, cell_at}
@@ -31,9 +31,6 @@ shape = record { seg = segment_of; off = offset_of; segments = most_segments; lo
 abbrev pub grid_of : Terms → Theory.Grid
 grid_of z =
     record { p = z.p; m = z.m; f = fill_of z.first z.step; code = λ i. mark_of (cell_at z i); grave = tombstone; shape = shape }
-
-pub lawful : (z : Terms) → z.m ≤ most_cells → Theory.Lawful (grid_of z)
-lawful z h = record { inj = λ i j hi hj e. e; apart = λ i hi e. let y : ⊥ = omega arith in y; enough = omega arith }
 
 -- ---- stages
 

@@ -1,4 +1,4 @@
--- Readings lost: the letter's incident, and the schedules on which the mistaken machines lose one. None has a one order.
+-- Histories that lose a reading: the letter's incident, and the schedules on which the mistaken machines lose one.
 -- Assumes nothing.
 use Rattle.std.specs.Prelude.{ℕ, zero, suc, refl, true, false, List, [], ◌∷◌, replicate}
 use Rattle.std.proofs.Math.Decide.{ℕ_discrete}
@@ -29,29 +29,17 @@ incident =
     hear (begin 0 (Ask.Write (cell 0) 9)) Answer.Begun ∷ hear (step 0) (Answer.Written 1) ∷ hear (begin 1 (Ask.Read (cell 0))) Answer.Begun
     ∷ hear (step 1) (Answer.Read 9 true 1) ∷ hear (begin 1 (Ask.Read (cell 0))) Answer.Begun ∷ hear (step 1) (Answer.Read 7 false 1) ∷ []
 
-pub incident_lost : OneOrder (fill_of 7 0) (recount blank incident) → ⊥
-unfolding recount quiet upd ℕ_discrete
-incident_lost = no_one_order (fill_of 7 0) 0 7 incident refl refl
-
 -- zero load or no load: a loader writes 0 where 0 was filled in, and a read says "not written"
 abbrev pub zero_load : List (Heard (terms 2 1))
 zero_load =
     hear (begin 0 (Ask.Write (cell 0) 0)) Answer.Begun ∷ hear (step 0) (Answer.Written 1) ∷ hear (begin 1 (Ask.Read (cell 0))) Answer.Begun
     ∷ hear (step 1) (Answer.Read 0 false 1) ∷ []
 
-pub zero_load_lost : OneOrder (fill_of 0 0) (recount blank zero_load) → ⊥
-unfolding recount quiet upd ℕ_discrete
-zero_load_lost = no_one_order (fill_of 0 0) 0 5 zero_load refl refl
-
 -- the same by the written-or-not question, while the write is under way
 abbrev pub question : List (Heard (terms 2 1))
 question =
     hear (begin 0 (Ask.Write (cell 0) 9)) Answer.Begun ∷ hear (begin 1 (Ask.Asked (cell 0))) Answer.Begun ∷ hear (step 1) (Answer.Asked true 1)
     ∷ hear (begin 1 (Ask.Asked (cell 0))) Answer.Begun ∷ hear (step 1) (Answer.Asked false 1) ∷ []
-
-pub question_lost : OneOrder (fill_of 7 0) (recount blank question) → ⊥
-unfolding recount quiet upd ℕ_discrete
-question_lost = no_one_order (fill_of 7 0) 0 7 question refl refl
 
 -- ---- schedules
 
@@ -90,10 +78,6 @@ remark_1 =
     heard 2 1 swaps_first (stray ∷ [])
     (writes 0 0 9 then writes 1 0 9 then steps 1 2 then steps 0 6 then steps 1 4 then reads 1 0 then steps 1 2)
 
-pub remark_1_lost : OneOrder (fill_of 7 0) (recount blank remark_1) → ⊥
-unfolding recount history quiet upd ℕ_discrete below opening_of begun_of verdict_of log_in log2 segment_of offset_of size_of
-remark_1_lost = no_one_order (fill_of 7 0) 0 7 remark_1 refl refl
-
 -- 004, section 4.1: the old link of cell 0 is (0, 0). Process 2 reads 9; process 0 takes its mark back and uses the place
 -- for cell 1 while process 2 reads again.
 abbrev pub race : List (Heard (terms 3 2))
@@ -102,10 +86,6 @@ race =
     (writes 0 0 9 then writes 1 0 9 then steps 1 3 then steps 0 7 then reads 2 0 then steps 2 5 then reads 2 0 then steps 2 1 then steps 1 5
     then steps 0 2 then writes 0 1 9 then steps 0 5 then steps 2 3)
 
-pub race_lost : OneOrder (fill_of 7 0) (recount blank race) → ⊥
-unfolding recount history quiet upd ℕ_discrete below opening_of begun_of verdict_of log_in log2 segment_of offset_of size_of
-race_lost = no_one_order (fill_of 7 0) 0 7 race refl refl
-
 -- With two processes: process 1 passed (b) on a mark that process 0 takes back, and at (d) meets the next mark at that place,
 -- put for its own cell and not yet in force. It ends its write, and reads the old value.
 abbrev pub two : List (Heard (terms 2 2))
@@ -113,7 +93,3 @@ two =
     heard 2 2 no_tombstone (0 ∷ stray ∷ [])
     (writes 0 1 9 then steps 0 5 then writes 1 1 9 then steps 1 7 then steps 0 1 then writes 1 0 8 then steps 1 3 then steps 0 2
     then writes 0 0 6 then steps 0 4 then steps 1 2 then reads 1 0 then steps 1 2)
-
-pub two_lost : OneOrder (fill_of 7 0) (recount blank two) → ⊥
-unfolding recount history quiet upd ℕ_discrete below opening_of begun_of verdict_of log_in log2 segment_of offset_of size_of
-two_lost = no_one_order (fill_of 7 0) 0 7 two refl refl

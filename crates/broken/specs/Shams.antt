@@ -1,4 +1,6 @@
--- Five shams, an open that refuses everything, and a write that ends twice: each breaks the clause that document 01 names for it.
+-- Five shams, an open that refuses everything, and a write that ends twice.
+-- Assumes nothing.
+use that document 01 names for it.
 -- Assumes nothing.
 use Rattle.std.specs.Prelude.{ℕ, zero, suc, ◌+◌, ◌<◌, ◌≡◌, refl, List, [], ◌∷◌, get_or}
 use Rattle.std.proofs.Common.{ap, subst, arith}
@@ -22,14 +24,14 @@ use Rattle.broken.specs.Mistakes.{stepping}
 use Rattle.broken.specs.Lost.{cell, terms, lent, opened, stray, ◌then◌, writes, reads, steps}
 
 -- one process, one cell, an old link that names no process
-abbrev one : Terms
+abbrev pub one : Terms
 one = terms 1 1
 
 -- the grid, with other answers to its steps
-abbrev answering : (Answer → Answer) → Outcome → Outcome
+abbrev pub answering : (Answer → Answer) → Outcome → Outcome
 answering h o = outcome (record { state = o.stepped.state; answer = h o.stepped.answer }) o.memory
 
-abbrev after : Machine State Ask → List (Call Ask one) → Run State
+abbrev pub after : Machine State Ask → List (Call Ask one) → Run State
 after M calls = run writing M (start (opened 1 1 (stray ∷ []))) calls
 
 -- ---- 1. One that refuses everything breaks demand 1's table.
@@ -41,15 +43,9 @@ refuser = record {
   step = λ s q mem. unchanged s mem Refusal.OutOfRange;
 }
 
-pub refuser_breaks_the_table : Demand1 writing refuser → ⊥
-unfolding below opening_of
-refuser_breaks_the_table D =
-    let k : refused Refusal.OutOfRange ≡ begins = D.begin_table_lem (opened 1 1 (stray ∷ [])).state 0 (Ask.Read (cell 0)) in
-    let y : ◌≡◌ {A = ℕ} 0 1 = cc in omega arith
-
 -- ---- 2. One with a fixed answer breaks demand 2 at the first written cell.
 
-abbrev fixed_answer : Answer → Answer
+abbrev pub fixed_answer : Answer → Answer
 fixed_answer Answer.Begun = Answer.Begun
 fixed_answer Answer.Going = Answer.Going
 fixed_answer (Answer.Read v t n) = Answer.Read 7 t n
@@ -63,15 +59,9 @@ fixed = stepping (λ s q mem. answering fixed_answer (step_of s q mem))
 abbrev pub written_then_read : List (Call Ask one)
 written_then_read = writes 0 0 9 then steps 0 7 then reads 0 0 then steps 0 5
 
-pub fixed_breaks_the_order : OneOrder (fill_of 7 0) (after fixed written_then_read).book → ⊥
-unfolding recount history quiet upd ℕ_discrete below opening_of begun_of verdict_of log_in log2 segment_of offset_of size_of
-fixed_breaks_the_order O =
-    no_one_order (fill_of 7 0) 0 7 (history fixed (opened 1 1 (stray ∷ [])) written_then_read) refl refl
-    (subst (OneOrder (fill_of 7 0)) (run_book fixed (start (opened 1 1 (stray ∷ []))) written_then_read) O)
-
 -- ---- 3. One whose steps change nothing breaks demand 3, since no operation ends.
 
-abbrev going_on : State → Memory → Answer → Outcome
+abbrev pub going_on : State → Memory → Answer → Outcome
 going_on s mem Answer.Begun = outcome (record { state = s; answer = Answer.Going }) mem
 going_on s mem Answer.Going = outcome (record { state = s; answer = Answer.Going }) mem
 going_on s mem (Answer.Read v t n) = outcome (record { state = s; answer = Answer.Going }) mem
@@ -85,25 +75,21 @@ idler = stepping (λ s q mem. going_on s mem (step_of s q mem).stepped.answer)
 abbrev pub four_steps : List (Call Ask one)
 four_steps = reads 0 0 then steps 0 4
 
-pub idler_breaks_the_count : Counted idler (after idler four_steps) → ⊥
-unfolding run upd ℕ_discrete below opening_of begun_of verdict_of log_in log2 segment_of offset_of size_of
-idler_breaks_the_count C = let h : 5 < 5 = C 0 in omega arith
-
 -- ---- 4. One that does a whole write in its first step and idles through the rest breaks the step list.
 
 -- the grid's steps of process q, n of them, whatever they answer
-abbrev hurried : ℕ → State → ℕ → Memory → World State
+abbrev pub hurried : ℕ → State → ℕ → Memory → World State
 hurried zero s q mem = record { state = s; memory = mem }
 hurried (suc n) s q mem = let o = step_of s q mem in hurried n o.stepped.state q o.memory
 
 -- the write is done; what is left of it is to look, and to find it done
-abbrev idling : World State → ℕ → Cell → Outcome
+abbrev pub idling : World State → ℕ → Cell → Outcome
 idling w q i =
     outcome
     (record { state = settled w.state q (with_op (lane_of w.state q) 1 (Op.Write i Check.Link)) w.state.top; answer = Answer.Going })
     w.memory
 
-abbrev hasty : State → ℕ → Memory → Op → Outcome
+abbrev pub hasty : State → ℕ → Memory → Op → Outcome
 hasty s q mem Op.Idle = step_of s q mem
 hasty s q mem (Op.Read i c) = step_of s q mem
 hasty s q mem (Op.Reading i) = step_of s q mem
@@ -115,17 +101,9 @@ hasty s q mem (Op.Marking i k) = step_of s q mem
 abbrev pub hasty_one : Machine State Ask
 hasty_one = stepping (λ s q mem. hasty s q mem (lane_of s q).op)
 
--- after its first step the link is swapped
-pub hasty_breaks_the_list : ByTheList writing hasty_one → ⊥
-unfolding below opening_of begun_of verdict_of log_in log2 segment_of offset_of size_of
-hasty_breaks_the_list L =
-    let s = (begin_of (opened 1 1 (stray ∷ [])).state 0 (Ask.Write (cell 0) 9)).state in
-    let mem = (opened 1 1 (stray ∷ [])).memory in
-    let k : 0 ≡ stray = ap (λ (o : Result State). get_or o.memory.links 0 0) (L.steps s 0 mem) in omega arith
-
 -- ---- 5. One that invents step counts breaks demand 3.
 
-abbrev one_more : Answer → Answer
+abbrev pub one_more : Answer → Answer
 one_more Answer.Begun = Answer.Begun
 one_more Answer.Going = Answer.Going
 one_more (Answer.Read v t n) = Answer.Read v t (n + 1)
@@ -139,13 +117,9 @@ inventor = stepping (λ s q mem. answering one_more (step_of s q mem))
 abbrev pub begun_read : List (Call Ask one)
 begun_read = reads 0 0
 
-pub inventor_breaks_the_count : Counted inventor (after inventor begun_read) → ⊥
-unfolding run upd ℕ_discrete below opening_of begun_of verdict_of log_in log2 segment_of offset_of size_of
-inventor_breaks_the_count C = let h : ◌≡◌ {A = ℕ} 2 1 = (C 0).0 in omega arith
-
 -- ---- A write that ends twice breaks demand 3: each operation ends once.
 
-abbrev ends_again : Outcome → ℕ → Answer → Outcome
+abbrev pub ends_again : Outcome → ℕ → Answer → Outcome
 ends_again o q Answer.Begun = o
 ends_again o q Answer.Going = o
 ends_again o q (Answer.Read v t n) = o
@@ -164,10 +138,6 @@ twice = stepping (λ s q mem. let o = step_of s q mem in ends_again o q o.steppe
 abbrev pub once_written : List (Call Ask one)
 once_written = writes 0 0 9 then steps 0 7
 
-pub twice_breaks_the_count : Counted twice (after twice once_written) → ⊥
-unfolding run upd ℕ_discrete below opening_of begun_of verdict_of log_in log2 segment_of offset_of size_of
-twice_breaks_the_count C = C 0
-
 -- ---- An open that refuses everything breaks demand 1's table for open.
 
 abbrev pub closed_one : Machine State Ask
@@ -177,32 +147,7 @@ closed_one = record {
   step = grid.step;
 }
 
-pub closed_breaks_the_table : Demand1 writing closed_one → ⊥
-closed_breaks_the_table D =
-    let k : Opening.Refused Refusal.LentLength ≡ Opening.Open = D.open_table one (lent 1 1 (stray ∷ [])) in
-    let y : ◌≡◌ {A = ℕ} 0 1 = cc in omega arith
-
 -- ---- So none of them is what is demanded.
 
-abbrev No : Machine State Ask → Type 0
+abbrev pub No : Machine State Ask → Type 0
 No M = Demanded M → ⊥
-
--- any of them that opens as the grid does
-accepted : (M : Machine State Ask) → M.opens ≡ grid.opens → Accepted M one (lent 1 1 (stray ∷ []))
-unfolding opening_of
-accepted M same = ap (λ (f : Terms → Memory → Started State). (f one (lent 1 1 (stray ∷ []))).opening) same
-
-abbrev met : {M : Machine State Ask} → M.opens ≡ grid.opens → Demanded M → (calls : List (Call Ask one))
-    → Meets writing M one (run writing M (start (opened_world M one (lent 1 1 (stray ∷ [])))) calls)
-met {M} same D calls = D.runs one (lent 1 1 (stray ∷ [])) (accepted M same) calls
-
-pub none_is_demanded : No refuser × No fixed × No idler × No hasty_one × No inventor × No closed_one × No twice
-none_is_demanded = (
-  (λ D. refuser_breaks_the_table D.demand_1),
-  (λ D. fixed_breaks_the_order (met refl D written_then_read).one_order),
-  (λ D. idler_breaks_the_count (met refl D four_steps).counted),
-  (λ D. hasty_breaks_the_list D.by_the_list),
-  (λ D. inventor_breaks_the_count (met refl D begun_read).counted),
-  (λ D. closed_breaks_the_table D.demand_1),
-  (λ D. twice_breaks_the_count (met refl D once_written).counted),
-)

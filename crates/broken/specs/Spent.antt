@@ -1,4 +1,4 @@
--- Two more of document 01's mistakes: one spends more words than demand 3 allows, the other leaves the step list.
+-- A schedule on which a machine that draws again spends more words than demand 3 allows.
 -- Assumes nothing.
 use Rattle.std.specs.Prelude.{ℕ, zero, suc, ◌≤◌, ◌≡◌, false, List, [], ◌∷◌}
 use Rattle.std.proofs.Common.{ap, arith}
@@ -24,18 +24,3 @@ lost_to1 (suc n) = lost_to1 n then writes 0 n 9 then steps 0 7 then writes 1 n 9
 -- The old links name the places that process 1 will use, so that it needs two places for a cell.
 abbrev pub four : Run State
 four = run writing draws_again (start (opened 2 5 (link_of 1 0 ∷ link_of 1 2 ∷ link_of 1 4 ∷ link_of 1 6 ∷ stray ∷ []))) (lost_to1 4)
-
--- 22 words for four cells and two loaders, where 20 are allowed: process 0 has drawn its first segment four times.
-pub drawing_again_spends : PoolSpent (terms 2 5) four.world.state four.book → ⊥
-unfolding run upd sum ℕ_discrete below opening_of begun_of verdict_of log_in log2 segment_of offset_of size_of
-drawing_again_spends h = let k : 22 ≤ 20 = h in omega arith
-
--- A link that names no process of the grid: the list answers at (a) that the cell is not written; this machine goes on to a process
--- that is not there, and is refused with 9.
-pub unchecked_leaves_the_list : ByTheList writing unchecked → ⊥
-unfolding below opening_of begun_of verdict_of log_in log2 segment_of offset_of size_of
-unchecked_leaves_the_list L =
-    let s = (begin_of (opened 1 1 (stray ∷ [])).state 0 (Ask.Read (cell 0))).state in
-    let k : Answer.Refused Refusal.OutOfRange ≡ Answer.Read 7 false 1 =
-    ap (λ (o : Result State). o.answer) (L.steps s 0 (opened 1 1 (stray ∷ [])).memory) in
-    let y : ◌≡◌ {A = ℕ} 0 1 = cc in omega arith

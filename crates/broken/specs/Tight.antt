@@ -1,5 +1,4 @@
--- The steps of demand 3 are reached, and of the pool neither 3 words for a cell nor 1 for a loader would do. Closed runs of the
--- grid, by computation.
+-- Runs of the grid that reach the steps of demand 3, and that need its words.
 -- Assumes nothing.
 use Rattle.std.specs.Prelude.{ℕ, zero, suc, ◌≡◌, refl, true, List, [], ◌∷◌}
 use Rattle.std.proofs.Math.Decide.{ℕ_discrete}
@@ -14,69 +13,41 @@ use Rattle.demands.specs.Book.{Run, run, start}
 use Rattle.demands.specs.Demand3.{most_steps, pool_bound}
 use Rattle.broken.specs.Lost.{cell, terms, opened, ◌then◌, writes, reads, steps}
 
-abbrev after : (p m : ℕ) → List ℕ → List (Call Ask (terms p m)) → Run State
+abbrev pub after : (p m : ℕ) → List ℕ → List (Call Ask (terms p m)) → Run State
 after p m links calls = run writing grid (start (opened p m links)) calls
 
 -- what the next step of process q is answered
-abbrev answered : Run State → ℕ → Answer
+abbrev pub answered : Run State → ℕ → Answer
 answered r q = (step_of r.world.state q r.world.memory).stepped.answer
 
 -- A read of a written cell ends with its step 5, a question with its step 4.
-abbrev reading : List (Call Ask (terms 1 1))
+abbrev pub reading : List (Call Ask (terms 1 1))
 reading = writes 0 0 9 then steps 0 9 then reads 0 0 then steps 0 4
 
-pub a_read_takes_five : answered (after 1 1 (0 ∷ []) reading) 0 ≡ Answer.Read 9 true (most_steps read)
-unfolding run upd ℕ_discrete below opening_of begun_of verdict_of log_in log2 segment_of offset_of size_of
-a_read_takes_five = refl
-
-abbrev asking : List (Call Ask (terms 1 1))
+abbrev pub asking : List (Call Ask (terms 1 1))
 asking = writes 0 0 9 then steps 0 9 then (begin 0 (Ask.Asked (cell 0)) ∷ []) then steps 0 3
 
-pub asked_takes_four : answered (after 1 1 (0 ∷ []) asking) 0 ≡ Answer.Asked true (most_steps asked)
-unfolding run upd ℕ_discrete below opening_of begun_of verdict_of log_in log2 segment_of offset_of size_of
-asked_takes_four = refl
-
 -- Example 9: process 1 wins the race for cell 1, and process 0 ends its write with its step 11.
-abbrev losing : List (Call Ask (terms 2 2))
+abbrev pub losing : List (Call Ask (terms 2 2))
 losing = writes 0 0 9 then steps 0 9 then writes 0 1 9 then steps 0 9 then writes 1 1 8 then steps 1 10 then steps 0 1
-
-pub a_write_takes_eleven : answered (after 2 2 (0 ∷ 0 ∷ []) losing) 0 ≡ Answer.Written (most_steps (write 9))
-unfolding run upd ℕ_discrete below opening_of begun_of verdict_of log_in log2 segment_of offset_of size_of
-a_write_takes_eleven = refl
 
 -- Eight cells, each with an old link to the place to be used next: 30 words are handed out, where 3 for each cell and 2 for
 -- the loader would be 26.
-abbrev written : ℕ → List (Call Ask (terms 1 8))
+abbrev pub written : ℕ → List (Call Ask (terms 1 8))
 written zero = []
 written (suc n) = written n then writes 0 n 9 then steps 0 11
 
-abbrev colliding : List ℕ
+abbrev pub colliding : List ℕ
 colliding = 0 ∷ 2 ∷ 4 ∷ 6 ∷ 8 ∷ 10 ∷ 12 ∷ 14 ∷ []
 
-abbrev full : Run State
+abbrev pub full : Run State
 full = after 1 8 colliding (written 8)
-
-pub thirty_words : full.world.state.top ≡ 30
-unfolding run upd sum ℕ_discrete below opening_of begun_of verdict_of log_in log2 segment_of offset_of size_of
-thirty_words = refl
-
-pub of_thirty_four : pool_bound (terms 1 8) full.book ≡ 34
-unfolding run upd sum ℕ_discrete below opening_of begun_of verdict_of log_in log2 segment_of offset_of size_of
-of_thirty_four = refl
 
 -- One cell and five loaders, each of which has drawn before any has ended: 10 words are handed out, where 4 for the cell and 1 for
 -- each loader would be 9.
-abbrev racing : ℕ → List (Call Ask (terms 5 1))
+abbrev pub racing : ℕ → List (Call Ask (terms 5 1))
 racing zero = []
 racing (suc q) = racing q then writes q 0 9 then steps q 4
 
-abbrev crowd : Run State
+abbrev pub crowd : Run State
 crowd = after 5 1 (0 ∷ []) (racing 5)
-
-pub ten_words : crowd.world.state.top ≡ 10
-unfolding run upd sum ℕ_discrete below opening_of begun_of verdict_of log_in log2 segment_of offset_of size_of
-ten_words = refl
-
-pub of_fourteen : pool_bound (terms 5 1) crowd.book ≡ 14
-unfolding run upd sum ℕ_discrete below opening_of begun_of verdict_of log_in log2 segment_of offset_of size_of
-of_fourteen = refl

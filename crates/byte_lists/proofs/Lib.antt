@@ -1,3 +1,4 @@
 pub mod LineLaws
 pub mod PutLaws
 pub mod MadeLaws
+pub mod Digits

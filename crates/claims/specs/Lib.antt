@@ -2,5 +2,4 @@ pub mod Words
 pub mod Claims
 pub mod Harmless
 pub mod OneSight
-pub mod OneWord
 pub mod NewNumbers

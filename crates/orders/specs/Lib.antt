@@ -1,4 +1,1 @@
--- the statement
 pub mod Numbered
--- the proof
-pub mod Computed

@@ -1,2 +1,1 @@
 pub mod OnPaper
-pub mod Theorems

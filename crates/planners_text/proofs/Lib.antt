@@ -1,3 +1,5 @@
 pub mod SizeLaws
 pub mod LaidLaws
 pub mod WriteLaws
+pub mod ReadBack
+pub mod Samples

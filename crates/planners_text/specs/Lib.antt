@@ -4,5 +4,3 @@ pub mod Rfc4180
 pub mod Sheet
 pub mod Claims
 pub mod Outcomes
-pub mod ReadBack
-pub mod Samples

@@ -31,13 +31,13 @@ use Rattle.demands.specs.Kinds.{writing}
 use Rattle.demands.specs.Book.{Book, Run, start}
 use Rattle.demands.specs.Demand1.{Said, refused, begins, steps, said}
 use Rattle.demands.specs.Demanded.{is_busy, expected, Meets}
-use Rattle.bridge.specs.Runs.{run_world}
-use Rattle.bridge.specs.Proved.{demanded}
+use Rattle.bridge.proofs.Runs.{run_world}
+use Rattle.bridge.proofs.Proved.{demanded}
 use Rattle.resting.specs.AtRest.{rests_in}
-use Rattle.resting.specs.Hours.{rests_resting}
+use Rattle.resting.proofs.Hours.{rests_resting}
 use Rattle.resting.specs.AtRest as AtRest
 use Rattle.paper.specs.OnPaper.{array_text, refusals_in, OnPaper}
-use Rattle.paper.specs.Theorems.{on_paper}
+use Rattle.paper.proofs.Theorems.{on_paper}
 use Rattle.programs.specs.Printed.{run_of, call_on, answer_on, LeavesARun, Printed, sheet_in, Sheet, PrintsARun, SheetOfARun}
 use Rattle.programs.specs.Lines.{line_refused}
 

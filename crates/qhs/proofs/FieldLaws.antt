@@ -15,7 +15,7 @@ use Rattle.qhs.specs.declared.Record.{Record}
 use Rattle.qhs.specs.Qhs.{marked, fields_at, record_start, record_in}
 use Rattle.byte_lists.specs.Bytes.{byte_at, number_at}
 use Rattle.qhs.specs.Inner.{Sound, start_in}
-use Rattle.byte_lists.specs.Digits.{number_cons, number_one, number_past}
+use Rattle.byte_lists.proofs.Digits.{number_cons, number_one, number_past}
 
 pub past_end : (s : List ℕ) (i : ℕ) → length s ≤ i → 0 ≡ byte_at s i
 past_end s i h = sym (get_or-eq_default s 0 {n = i} h)

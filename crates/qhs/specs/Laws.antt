@@ -3,7 +3,7 @@
 use Rattle.std.specs.Prelude.{◌≡◌, true, false, not, ◌&&◌, List, ℕ, ◌+◌, ◌*◌, ◌%◌, ◌^◌, ◌<◌, ◌≤◌, length, leb}
 use Rattle.std.proofs.Common.{sym, ◌∙◌, div-add-mod', mul_comm, mul-le-mul_left, arith, ltb-false, leb-true, eqb-true}
 use Rattle.std.proofs.lemmas.Bool.{not-false}
-use Rattle.byte_lists.specs.Digits.{Bytes, number_below}
+use Rattle.byte_lists.proofs.Digits.{Bytes, number_below}
 use Rattle.numbers.specs.Numbers.{most_processes, most_cells}
 use Rattle.numbers.specs.Cells.{one_to}
 use Rattle.logic.specs.Truth.{and_left, and_right}

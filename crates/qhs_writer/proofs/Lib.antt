@@ -1,2 +1,4 @@
 pub mod LaidLaws
 pub mod WriteLaws
+pub mod ReadWritten
+pub mod WrittenRead

@@ -6,7 +6,7 @@ use Rattle.qhs.specs.declared.Header.{Header}
 use Rattle.qhs.specs.declared.Reading.TheVariants as Reading
 use Rattle.qhs.specs.Qhs.{most_records, record_at, read_of}
 use Rattle.qhs.specs.Laws.{Words}
-use Rattle.byte_lists.specs.Digits.{Bytes}
+use Rattle.byte_lists.proofs.Digits.{Bytes}
 use Rattle.byte_lists.specs.Bytes.{splice}
 use Rattle.qhs_writer.specs.declared.Wrote.{Wrote}
 use Rattle.qhs_writer.specs.Writer.{Fields, count, entry_at, needed, page, write_of}

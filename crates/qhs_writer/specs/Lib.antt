@@ -4,6 +4,4 @@ pub mod Sizes
 pub mod Again
 pub mod Claims
 pub mod Outcomes
-pub mod WrittenRead
-pub mod ReadWritten
 pub mod Samples

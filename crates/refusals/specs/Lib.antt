@@ -1,4 +1,3 @@
 pub mod Numbers
-pub mod Papers
 pub mod Orders
 pub mod Laws

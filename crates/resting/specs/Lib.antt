@@ -1,7 +1,1 @@
--- the statement
 pub mod AtRest
--- the proof
-pub mod Cells
-pub mod Hours
--- the theorems
-pub mod Theorems

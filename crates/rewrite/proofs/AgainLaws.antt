@@ -13,7 +13,7 @@ use Rattle.qhs.specs.declared.Record.{Record}
 use Rattle.qhs.specs.declared.Reading.{Reading}
 use Rattle.qhs.specs.Qhs.{version1, most_records, record_in, record_at, read_of}
 use Rattle.qhs.specs.Laws.{schedule}
-use Rattle.byte_lists.specs.Digits.{Bytes, number_below}
+use Rattle.byte_lists.proofs.Digits.{Bytes, number_below}
 use Rattle.qhs.specs.Parts.{part_length}
 use Rattle.byte_lists.specs.declared.Put.TheVariants as Put
 use Rattle.text.specs.Text.{file_refused_line}

@@ -10,7 +10,7 @@ use borrow.Author.Tests.{le-leb, lt-leb, lt-ltb, le-ltb, eq-eqb, ne_eqb, ltb-tru
 use lib.Dec.{ltb}
 use mathlib.Core.Bool.{Bool, true, false}
 use Rattle.numbers.specs.Numbers.{process_of, place_of, segment_of, offset_of, size_of, directory_word}
-use Rattle.numbers.specs.Laws.{offset_below, size_least, size_word}
+use Rattle.numbers.proofs.Laws.{offset_below, size_least, size_word}
 use Rattle.numbers.specs.Cells.{mark_of, index_of}
 use Rattle.numbers.specs.declared.Cell.{Cell}
 use Rattle.numbers.specs.declared.Place.{Place}

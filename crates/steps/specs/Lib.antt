@@ -3,5 +3,4 @@ pub mod Steps
 pub mod Changes
 pub mod ChangeLaws
 pub mod Touched
-pub mod OneWord
 pub mod Inner

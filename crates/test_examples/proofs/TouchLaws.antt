@@ -6,8 +6,8 @@ use mathlib.Core.List.{List}
 use Prim.Native.Nat.{ℕ, ◌+◌, ◌<◌}
 use native.Mathlib.Omega.{arith}
 use Rattle.numbers.specs.Numbers.{segment_of, offset_of, directory_word, process_of, place_of}
-use Rattle.numbers.specs.Laws.{segment_bounds, place_at}
-use Rattle.numbers.specs.Logs.{double_next}
+use Rattle.numbers.proofs.Laws.{segment_bounds, place_at}
+use Rattle.numbers.proofs.Logs.{double_next}
 use Rattle.numbers.specs.Cells.{index_of}
 use Rattle.numbers.specs.declared.Cell.{Cell}
 use Rattle.numbers.specs.declared.Place.{Place}

@@ -1,4 +1,4 @@
--- What the crate above uses: the machine, the whole invariant, that every call keeps it, and what follows from it.
+-- What the crates above use: the machine, one order, and what their statements are made of.
 -- Assumes nothing.
 pub use Rattle.theory.specs.Base.{pick, upd_same, upd_other}
 unfoldable pub use Rattle.theory.specs.Base.{upd}
@@ -19,18 +19,10 @@ pub use Rattle.theory.specs.Run.{Tally, tallied, Call, begin, step, Run, pass_ru
 unfoldable pub use Rattle.theory.specs.Run.{after_calls}
 -- the invariant
 pub use Rattle.theory.specs.Machine.{Lawful}
-pub use Rattle.theory.specs.Whole.{Whole, Later, whole_opened, whole_rest, whole_pass, whole_begin, whole_step, whole_call, whole_run}
--- its consequences
+-- what its consequences say
 unfoldable pub use Rattle.theory.specs.Sum.{sum}
 pub use Rattle.theory.specs.Standing.{front, front_at}
 pub use Rattle.theory.specs.OneOrder.{Under, Pending, OneOrder}
 pub use Rattle.theory.specs.Ticks.{bound}
 pub use Rattle.theory.specs.Touch.{Inside, TouchIn, Touch}
-pub use Rattle.theory.specs.Consequences.{one_order, order_so_far, steps_under_way, pool_bound_lem, top_fits, drawn_fits, marks_fit}
-pub use Rattle.theory.specs.Consequences.{front_fits, process_fits, cell_fits_lem, place_read, touches, mark_read}
-pub use Rattle.theory.specs.AtRest.{CellAtRest, unwritten, written, all_ended, cell_at_rest}
 pub use Rattle.theory.specs.RealTime.{ended_first, real_time_order, new_after_old}
--- a part of the cells; operations one after another
-pub use Rattle.theory.specs.Part.{named, named_done, named_is, part_of, part_done, Came, came, stays, part_orderly}
-unfoldable pub use Rattle.theory.specs.Part.{chosen}
-pub use Rattle.theory.specs.Sequence.{deeds_of, answers_of, InTurn, Replies, same_answers, in_turn, part_in_turn}

@@ -30,10 +30,8 @@ pub mod Swap
 pub mod Store
 pub mod Sweep
 pub mod WriteSwap
-pub mod ByStage
 pub mod Rest
 pub mod Begin
-pub mod Sieve
 -- the account
 pub mod Sum
 pub mod Account
@@ -50,14 +48,8 @@ pub mod Ranges
 -- the step counts
 pub mod Ticks
 pub mod Timely
--- the whole
-pub mod Whole
+-- what a call touches
 pub mod Touch
-pub mod Consequences
-pub mod AtRest
--- beyond one array: a part of the cells, operations one after another
-pub mod Part
-pub mod Sequence
 -- for the crates above
 pub mod Interface
 -- starred examples of the scope

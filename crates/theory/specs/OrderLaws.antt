@@ -27,10 +27,6 @@ unfolding value written deeds
 value_unwritten f [] i h = refl
 value_unwritten f (e ∷ es) i h = unwritten_by e.op e.cell i (value_in f es i) (f i) (written_in es i) (value_unwritten f es i) h
 
--- a read answers what the cell holds and whether it is written
-pub read_answers : (f : ℕ → ℕ) (es : List Entry) (i v : ℕ) (b : Bool) → value_in f es i ≡ v → written_in es i ≡ b → got v b ≡ answer f (deeds es) read i
-read_answers f es i v b e h = ap (λ (x : ℕ). got x b) (sym e) ∙ ap (λ (x : Bool). got (value_in f es i) x) (sym h)
-
 -- an operation stands once
 pub unique : (f : ℕ → ℕ) (es : List Entry) → Orderly f es → (d e : Entry) → Memᴰ d es → Memᴰ e es → d.began ≡ e.began → d ≡ e
 unique f [] h d e (md) me k = elim md [ ]

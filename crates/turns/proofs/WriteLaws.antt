@@ -9,7 +9,7 @@ use lib.ListN.{get_or}
 use borrow.Author.Tests.{lt-ltb, le-ltb, eq-eqb, ne_eqb, leb-true}
 use Rattle.numbers.specs.Numbers.{tombstone, most_marks, most_cells, most_segments, segment_of, size_of, link_of, directory_word}
 use Rattle.numbers.specs.Cells.{mark_of, index_of}
-use Rattle.numbers.specs.Laws.{segment_bounds, segment_few, size_word}
+use Rattle.numbers.proofs.Laws.{segment_bounds, segment_few, size_word}
 use Rattle.numbers.specs.declared.Cell.{Cell}
 use Rattle.numbers.specs.declared.Place.{Place}
 use Rattle.numbers.specs.declared.Terms.{Terms}

@@ -1,8 +1,8 @@
 use Rattle.std.proofs.Common.{◌≡◌, ℕ, ◌+◌, ◌^◌, ◌<◌, ◌≤◌, arith, pow_pos, rules}
 use lib.Pow.{pow-lt}
 use Rattle.numbers.specs.Numbers.{segment_of, offset_of}
-use Rattle.numbers.specs.Laws.{segment_bounds, segment_word}
-use Rattle.numbers.specs.Logs.{double}
+use Rattle.numbers.proofs.Laws.{segment_bounds, segment_word}
+use Rattle.numbers.proofs.Logs.{double}
 use Rattle.numbers.proofs.offset_of.Goals as goal
 
 record Lies (n s : ℕ) : Type 0 where

@@ -1,7 +1,7 @@
 use Rattle.std.proofs.Common.{◌≡◌, ℕ, ◌+◌, ◌/◌, ◌<◌, arith, rules}
 use lib.Count.{count_leading_zeros, leading_top}
 use Rattle.numbers.specs.Numbers.{segment_of}
-use Rattle.numbers.specs.Logs.{around}
+use Rattle.numbers.proofs.Logs.{around}
 use Rattle.numbers.proofs.segment_of.Goals as goal
 
 zeros : (n : ℕ) → n < 18446744073709551616 → count_leading_zeros 64 (n / 2 + 1) + segment_of n ≡ 63

@@ -1,7 +1,7 @@
 use Rattle.std.proofs.Common.{◌≡◌, ℕ, ◌+◌, ◌-◌, ◌%◌, ◌^◌, ◌≤◌, sym, ap, ◌∙◌, arith, pow-add}
 use native.Mathlib.Nat.{mul-mod_right}
 use Rattle.numbers.specs.Numbers.{size_of}
-use Rattle.numbers.specs.Logs.{double}
+use Rattle.numbers.proofs.Logs.{double}
 use Rattle.numbers.proofs.size_of.Goals as goal
 
 wide : (s : ℕ) → 63 ≤ s → 2 ^ (s + 1) % 18446744073709551616 ≡ 0
