@@ -1,5 +1,6 @@
 // For the benchmark's C program: opens, operations of one process and reads, through open, begin and step.
 #![tactic(auto)]
+
 ghost use Rattle.std.specs.Prelude.{◌<◌, ◌≤◌};
 
 pub mod opens;
