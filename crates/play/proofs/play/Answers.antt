@@ -1,0 +1,9 @@
+use Rattle.play.proofs.FileLaws.{play_none, play_refused, play_schedule, play_ready}
+use borrow.Author.Rules.{rules}
+use Rattle.play.proofs.play.Goals as goal
+
+pub schedule-requires : goal.schedule-requires
+schedule-requires c = search (play_ready)
+
+pub returns-in-Refused : goal.returns-in-Refused
+returns-in-Refused c = search (play_refused)

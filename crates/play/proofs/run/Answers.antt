@@ -1,0 +1,24 @@
+use Prim.Native.Nat.{◌-◌}
+use mathlib.Core.Path.{◌≡◌, refl}
+use native.Mathlib.Omega.{arith}
+use borrow.Author.Rules.{rules}
+use lib.ListN.{length}
+use Rattle.steps.specs.Memory.{memory}
+use Rattle.acts.specs.Worlds.{world}
+use Rattle.play.specs.Inner.{list_records}
+use Rattle.play.proofs.ListLaws.{count_fits, count_less}
+use Rattle.play.proofs.RunLaws.{Going, going_start, going_sized, going_short, going_room, going_next, going_end}
+use Rattle.play.proofs.run.Goals as goal
+
+pub loop-k-init : goal.loop-k-init
+loop-k-init c = (search (going_start), (refl, (refl, (refl, (refl, refl)))))
+
+pub loop-k-preserved : goal.loop-k-preserved
+loop-k-preserved c = let listed = c.played-s.ensures _ c.loop-k.invariant.0.is in
+    (
+      going_next _ _ _ _ _ _ _ _ _ c.loop-k.invariant.0 _ _ c.loop-k-test.true c.count-c.ensures _ _ _ listed c.lines-at.ensures,
+      (search rules, (search rules, (search rules, (search (rules, c.directory-1.given), search rules)))),
+    )
+
+pub returns : goal.returns
+returns c = search (going_end)
