@@ -1,7 +1,5 @@
 -- Each sham breaks the clause that document 01 names for it, and none of them is what is demanded.
 -- Assumes nothing.
-use that document 01 names for it.
--- Assumes nothing.
 use Rattle.std.specs.Prelude.{ℕ, zero, suc, ◌+◌, ◌<◌, ◌≡◌, refl, List, [], ◌∷◌, get_or}
 use Rattle.std.proofs.Common.{ap, subst, arith}
 use Rattle.std.proofs.Math.Decide.{ℕ_discrete}

@@ -1,7 +1,5 @@
 -- Five shams, an open that refuses everything, and a write that ends twice.
 -- Assumes nothing.
-use that document 01 names for it.
--- Assumes nothing.
 use Rattle.std.specs.Prelude.{ℕ, zero, suc, ◌+◌, ◌<◌, ◌≡◌, refl, List, [], ◌∷◌, get_or}
 use Rattle.std.proofs.Common.{ap, subst, arith}
 use Rattle.std.proofs.Math.Decide.{ℕ_discrete}

@@ -24,7 +24,7 @@ use Rattle.planners_text.specs.declared.Wrote.TheVariants as Wrote
 use Rattle.planners_text.specs.PlannersText.{text_of, page}
 use Rattle.play.specs.Play.{filled, ask_of, call_of, calls, after, lines_to, schedule_text, output_as}
 use Rattle.play.specs.Fold.{after_calls_lem, answer_call}
-use Rattle.play.specs.Opens as Opens
+use Rattle.play.proofs.Opens as Opens
 use Rattle.sheet.specs.Sheet.{shown, shown_of, left, sheet_as, sheet_of}
 use Rattle.demands.specs.Types.{Refusal, Terms, State, Memory, Answer}
 use Rattle.demands.specs.Kinds.{writing}

@@ -1,0 +1,14 @@
+use native.Mathlib.Omega.{arith}
+use mathlib.Core.Path.{refl}
+use Rattle.qhs.specs.Parts.{part_length}
+use Rattle.play.specs.Play.{cell_room, directory_room, pool_room}
+use Rattle.play.proofs.Fills.{filled_is}
+use Rattle.sheet.proofs.SheetLaws.{left_filled}
+use borrow.Author.Rules.{rules}
+use Rattle.sheet.proofs.schedule.Goals as goal
+
+pub returns : goal.returns
+returns c = left_filled _ _ c.args.h _ _ _
+    (filled_is c.args.h cell_room directory_room pool_room _ _ c.requires.p_high c.requires.m_high refl refl refl c.directory_words-entries.ensures
+    c.pool_words-words.ensures)
+    c.run.ensures
