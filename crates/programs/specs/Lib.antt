@@ -1,5 +1,4 @@
 -- the statements
 pub mod Printed
--- the proofs
+-- a line tells its refusal
 pub mod Lines
-pub mod Theorems
