@@ -230,9 +230,11 @@ module _ (kinds processes cells values answers₀ readings₀ links₀ directory
           G.fine
           ∙ sym
           (ap (λ (x : Outcome). state_fits x.stepped.state) out
-          ∙ entered_keeps t (memory readings links directory pool) (get_or kinds i 0) (get_or processes i 0) (record { 0 = get_or cells i 0 }) (get_or values i 0));
+          ∙ entered_keeps t (memory readings links directory pool) (get_or kinds i 0) (get_or processes i 0) (record { 0 = get_or cells i 0 })
+          (get_or values i 0));
       done = done_more kinds processes cells values s (memory readings₀ links₀ directory₀ pool₀) answers₀ i t (memory readings links directory pool)
-          (memory readings' links' directory' pool') answers k (get_or processes i 0) (get_or kinds i 0) (get_or values i 0) code (record { 0 = get_or cells i 0 }) b
+          (memory readings' links' directory' pool') answers k (get_or processes i 0) (get_or kinds i 0) (get_or values i 0) code
+          (record { 0 = get_or cells i 0 }) b
           G.done refl refl refl refl out g.0;
       back = back_more kinds processes cells values s (memory readings₀ links₀ directory₀ pool₀) answers₀ i code answers
           (let a = G.few.in_answers in let b = G.same_answers in omega arith) G.back (g.1 ∙ given);

@@ -1,5 +1,6 @@
 // Many begins and steps in one call: the state stays in one local, and is looked at once.
 #![tactic(auto)]
+
 ghost use Rattle.std.specs.Prelude.{◌≡◌, ◌<◌};
 ghost use Rattle.lanes.specs.Ranges.{state_fits};
 ghost use Rattle.steps.specs.Memory.{memory};
@@ -112,7 +113,8 @@ fn entry(
     pool: &mut [Mark],
 ) -> Acted
     requires { Judged fits z top q.0 l seen }
-    ensures { effect result (memory readings.new links.new directory.new pool.new) ≡ entry_of fits z top q.0 l seen kind i v (memory readings.old links.old directory.old pool.old) }
+    ensures { effect result (memory readings.new links.new directory.new pool.new)
+        ≡ entry_of fits z top q.0 l seen kind i v (memory readings.old links.old directory.old pool.old) }
 {
     if beginning(kind) {
         let o = op_of(kind, i, v);
@@ -135,8 +137,10 @@ pub fn run(
     directory: &mut [u32],
     pool: &mut [Mark],
 ) -> State
-    ensures done { batch result (memory readings.new links.new directory.new pool.new) answers.new ≡ batch_of s (memory readings.old links.old directory.old pool.old) answers.old kinds.now processes.now cells.now values.now }
-    ensures told { Told kinds.now processes.now cells.now values.now (batch s (memory readings.old links.old directory.old pool.old) answers.old) (entries kinds.now processes.now cells.now values.now answers.old) answers.new }
+    ensures done { batch result (memory readings.new links.new directory.new pool.new) answers.new
+        ≡ batch_of s (memory readings.old links.old directory.old pool.old) answers.old kinds.now processes.now cells.now values.now }
+    ensures told { Told kinds.now processes.now cells.now values.now (batch s (memory readings.old links.old directory.old pool.old) answers.old)
+        (entries kinds.now processes.now cells.now values.now answers.old) answers.new }
 {
     let mut t = s;
     let fits = state_fits(s);

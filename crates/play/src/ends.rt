@@ -20,7 +20,8 @@ pub fn state_after(
     directory: &mut [u32],
     pool: &mut [Mark],
 ) -> State
-    ensures { world result (memory readings.new links.new directory.new pool.new) ≡ after bytes.now (opened_world grid (terms_of h) (memory readings.old links.old directory.old pool.old)) n }
+    ensures { world result (memory readings.new links.new directory.new pool.new)
+        ≡ after bytes.now (opened_world grid (terms_of h) (memory readings.old links.old directory.old pool.old)) n }
 {
     let o = grid::open(qhs::terms_of(h), readings, links, directory, pool);
     let mut s = o.state;

@@ -1,5 +1,6 @@
 // The planners' program without its input and output: from a file's bytes to the bytes that it prints.
 #![tactic(auto)]
+
 ghost use Rattle.std.specs.Prelude.{◌≡◌};
 ghost use Rattle.steps.specs.Memory.{memory};
 ghost use Rattle.byte_lists.specs.Bytes.{placed};

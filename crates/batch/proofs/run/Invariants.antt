@@ -8,7 +8,8 @@ use Rattle.batch.proofs.BatchLaws.{Going, going_start, going_more, going_end, go
 use Rattle.batch.proofs.run.Given as goal
 
 abbrev pub invariant-loop-i : goal.invariant-loop-i
-invariant-loop-i l = Going l.kinds l.processes l.cells l.values l.initial.answers l.initial.readings l.initial.links l.initial.directory l.initial.pool l.s l.fits l.n l.answers l.readings l.links l.directory l.pool l.t l.i
+invariant-loop-i l = Going l.kinds l.processes l.cells l.values l.initial.answers l.initial.readings l.initial.links l.initial.directory
+    l.initial.pool l.s l.fits l.n l.answers l.readings l.links l.directory l.pool l.t l.i
 
 abbrev pub decreases-loop-i : goal.decreases-loop-i
 decreases-loop-i l = l.n - l.i

@@ -14,11 +14,10 @@ pub loop-k-init : goal.loop-k-init
 loop-k-init c = (search (going_start), (refl, (refl, (refl, (refl, refl)))))
 
 pub loop-k-preserved : goal.loop-k-preserved
-loop-k-preserved c = let listed = c.played-s.ensures _ c.loop-k.invariant.0.is in
-    (
-      going_next _ _ _ _ _ _ _ _ _ c.loop-k.invariant.0 _ _ c.loop-k-test.true c.count-c.ensures _ _ _ listed c.lines-at.ensures,
-      (search rules, (search rules, (search rules, (search (rules, c.directory-1.given), search rules)))),
-    )
+loop-k-preserved c = let listed = c.played-s.ensures _ c.loop-k.invariant.0.is in (
+  going_next _ _ _ _ _ _ _ _ _ c.loop-k.invariant.0 _ _ c.loop-k-test.true c.count-c.ensures _ _ _ listed c.lines-at.ensures,
+  (search rules, (search rules, (search rules, (search (rules, c.directory-1.given), search rules)))),
+)
 
 pub returns : goal.returns
 returns c = search (going_end)

@@ -11,7 +11,9 @@ use Rattle.play.proofs.RunLaws.{Going, going_start, going_sized, going_short, go
 use Rattle.play.proofs.run.Given as goal
 
 abbrev pub invariant-loop-k : goal.invariant-loop-k
-invariant-loop-k l = Going l.bytes l.n (world l.initial.s (memory l.initial.readings l.initial.links l.initial.directory l.initial.pool)) l.initial.out l.initial.at (world l.s (memory l.readings l.links l.directory l.pool)) l.out l.at l.k
+invariant-loop-k l = Going l.bytes l.n (world l.initial.s
+    (memory l.initial.readings l.initial.links l.initial.directory l.initial.pool)) l.initial.out l.initial.at (world l.s
+    (memory l.readings l.links l.directory l.pool)) l.out l.at l.k
     × ((list_records ≡ length l.words)
     × ((length l.readings ≡ length l.initial.readings)
     × ((length l.links ≡ length l.initial.links)

@@ -2,7 +2,8 @@ use Rattle.std.proofs.Common.{◌≡◌, ◌-◌, ◌<◌, ◌≤◌, length}
 use Rattle.bench_host.proofs.reads.grid_reads.Given as goal
 
 abbrev pub invariant-loop-i : goal.invariant-loop-i
-invariant-loop-i l = (length l.readings ≡ length l.initial.readings) × (length l.links ≡ length l.initial.links) × (length l.directory ≡ length l.initial.directory)
+invariant-loop-i l = (length l.readings ≡ length l.initial.readings) × (length l.links ≡ length l.initial.links)
+    × (length l.directory ≡ length l.initial.directory)
     × (length l.pool ≡ length l.initial.pool) × (length l.outcomes ≡ length l.initial.outcomes) × (l.i ≤ length l.initial.outcomes)
     × (length l.initial.outcomes < 18446744073709551616)
 
