@@ -22,7 +22,6 @@ use Rattle.steps.specs.Inner.{handed}
 use Rattle.steps.specs.Steps.{turn_of}
 use Rattle.lanes.specs.declared.Check.TheVariants as Check
 use Rattle.lanes.specs.declared.Op.{Op}
-use Rattle.lanes.specs.declared.Op.TheVariants as Op
 use Rattle.steps.specs.Memory.{Memory, memory}
 use Rattle.acts.specs.declared.Acted.{Acted}
 use Rattle.acts.specs.declared.Stepped.{Stepped}

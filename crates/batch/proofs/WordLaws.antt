@@ -9,7 +9,6 @@ use borrow.Author.Tests.{ne_eqb}
 use Rattle.refusals.specs.Numbers.{number_of, refusal_of}
 use Rattle.refusals.specs.declared.Refusal.{Refusal}
 use Rattle.acts.specs.declared.Answer.{Answer}
-use Rattle.acts.specs.declared.Answer.TheVariants as Answer
 use Rattle.batch.specs.Batch.{code_with, bit, count_of, code_of, answer_of}
 use Rattle.batch.specs.Words.{steps_of, number_few, answer_back}
 

@@ -11,9 +11,7 @@ use Rattle.steps.specs.Inner.{handed}
 use Rattle.steps.specs.Steps.{turn_of}
 use Rattle.steps.specs.Memory.{Memory}
 use Rattle.acts.specs.declared.Ask.{Ask}
-use Rattle.acts.specs.declared.Ask.TheVariants as Ask
 use Rattle.acts.specs.declared.Answer.{Answer}
-use Rattle.acts.specs.declared.Answer.TheVariants as Answer
 use Rattle.acts.specs.Calls.{op_of, begin_of, begun_of, Effect, effect, act_of, Outcome, outcome, step_of}
 
 -- An entry of kind 1 begins a read, 2 a write, 3 an asked; one of any other kind is a step.

@@ -1,13 +1,12 @@
 -- Every call keeps a state in its ranges there, and a state out of them as it is.
 -- Assumes nothing.
-use Rattle.std.specs.Prelude.{ℕ, ◌<◌, ◌≡◌, refl, Bool, true, false, not, leb, ltb}
+use Rattle.std.specs.Prelude.{ℕ, ◌≡◌, refl, Bool, true, false, not, leb, ltb}
 use Rattle.std.proofs.Math.Path.{sym}
-use Rattle.std.proofs.Common.{ap, ◌∙◌, arith, le-leb, lt-ltb, ltb-true}
+use Rattle.std.proofs.Common.{ap, ◌∙◌, arith, le-leb, ltb-true}
 use Rattle.numbers.specs.Numbers.{pool_words, most_marks, most_segments}
 use Rattle.logic.specs.Truth.{and_left, and_right}
 use Rattle.logic.specs.Pick.{pick}
 use Rattle.refusals.specs.declared.Refusal.{Refusal}
-use Rattle.refusals.specs.declared.Refusal.TheVariants as Refusal
 use Rattle.numbers.specs.Cells.{cell_fits}
 use Rattle.lanes.specs.declared.Lane.{Lane}
 use Rattle.lanes.specs.declared.State.{State}
@@ -17,16 +16,12 @@ use Rattle.numbers.specs.declared.Terms.{Terms}
 use Rattle.steps.specs.declared.Change.{Change}
 use Rattle.steps.specs.declared.Next.{Next}
 use Rattle.steps.specs.declared.Turn.{Turn}
-use Rattle.steps.specs.declared.Turn.TheVariants as Turn
 use Rattle.steps.specs.Memory.{Memory}
-use Rattle.steps.specs.Steps.{turn_of}
 use Rattle.steps.specs.Changes.{lane_after, top_after}
 use Rattle.acts.specs.declared.Ask.{Ask}
-use Rattle.acts.specs.declared.Ask.TheVariants as Ask
 use Rattle.acts.specs.declared.Acted.{Acted}
 use Rattle.acts.specs.declared.Answer.TheVariants as Answer
 use Rattle.acts.specs.declared.Verdict.{Verdict}
-use Rattle.acts.specs.declared.Verdict.TheVariants as Verdict
 use Rattle.acts.specs.Settled.{put_back, settled_fits}
 use Rattle.acts.specs.Calls.{lengths_fit, cell_of, op_of, with_op, refused_as, settled, begun_of, begin_of, advance, numbers_fit, decided, verdict_of}
 use Rattle.acts.specs.Calls.{effect_of, outcome_as, step_by, turn_in, step_of}

@@ -6,7 +6,6 @@ use Rattle.refusals.specs.Numbers.{number_of}
 use Rattle.refusals.specs.Laws.{refusal_back, number_below}
 use Rattle.refusals.specs.declared.Refusal.{Refusal}
 use Rattle.acts.specs.declared.Answer.{Answer}
-use Rattle.acts.specs.declared.Answer.TheVariants as Answer
 use Rattle.batch.specs.Batch.{code_with, bit, code_of, answer_as, answer_of}
 
 -- An answer's steps; 0 where it has none.

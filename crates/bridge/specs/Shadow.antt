@@ -3,7 +3,7 @@
 use Rattle.std.specs.Prelude.{ℕ, suc, ◌+◌, ◌^◌, ◌≤◌, ◌<◌, ◌≡◌, List, get_or}
 use Rattle.std.proofs.Math.Decide.{dec_lt}
 use Rattle.std.proofs.Common.{add-one, arith, pow_mono}
-use Rattle.numbers.specs.Numbers.{most_cells, most_segments, segment_of, offset_of, directory_word, process_of, place_of, fill_of, tombstone}
+use Rattle.numbers.specs.Numbers.{most_segments, segment_of, offset_of, directory_word, process_of, place_of, fill_of, tombstone}
 use Rattle.numbers.proofs.Laws.{segment_bounds, place_at}
 use Rattle.lanes.specs.Ranges.{lane_of}
 use Rattle.theory.specs.Interface as Theory

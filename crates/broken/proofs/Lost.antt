@@ -1,19 +1,15 @@
 -- Readings lost: none of these histories has a one order.
 -- Assumes nothing.
-use Rattle.std.specs.Prelude.{ℕ, zero, suc, refl, true, false, List, [], ◌∷◌, replicate}
+use Rattle.std.specs.Prelude.{refl}
 use Rattle.std.proofs.Math.Decide.{ℕ_discrete}
-use Rattle.numbers.specs.Numbers.{directory_words, pool_words, fill_of, log_in, log2, segment_of, offset_of, size_of}
+use Rattle.numbers.specs.Numbers.{fill_of, log_in, log2, segment_of, offset_of, size_of}
 use Rattle.logic.specs.Below.{below}
-use Rattle.steps.specs.Memory.{memory}
 use Rattle.acts.specs.Calls.{opening_of, begun_of, verdict_of}
 use Rattle.theory.specs.Interface.{upd}
-use Rattle.demands.specs.Types.{Cell, Terms, State, Memory, Ask, Answer}
-use Rattle.acts.specs.Worlds.{Machine, World, grid, Call, begin, step, opened_world}
 use Rattle.demands.specs.Book.{blank}
 use Rattle.demands.specs.Demand2.{OneOrder}
-use Rattle.broken.specs.Histories.{Heard, hear, recount, history, quiet, no_one_order}
-use Rattle.broken.specs.Mistakes.{swaps_first, no_tombstone}
-use Rattle.broken.specs.Lost.{cell, terms, incident, zero_load, question, lent, opened, stray, ◌then◌, writes, reads, steps, heard, remark_1, race, two}
+use Rattle.broken.specs.Histories.{recount, history, quiet, no_one_order}
+use Rattle.broken.specs.Lost.{incident, zero_load, question, remark_1, race, two}
 
 pub incident_lost : OneOrder (fill_of 7 0) (recount blank incident) → ⊥
 unfolding recount quiet upd ℕ_discrete

@@ -1,26 +1,23 @@
 -- Each sham breaks the clause that document 01 names for it, and none of them is what is demanded.
 -- Assumes nothing.
-use Rattle.std.specs.Prelude.{ℕ, zero, suc, ◌+◌, ◌<◌, ◌≡◌, refl, List, [], ◌∷◌, get_or}
+use Rattle.std.specs.Prelude.{ℕ, ◌<◌, ◌≡◌, refl, List, [], ◌∷◌, get_or}
 use Rattle.std.proofs.Common.{ap, subst, arith}
 use Rattle.std.proofs.Math.Decide.{ℕ_discrete}
 use Rattle.numbers.specs.Numbers.{fill_of, log_in, log2, segment_of, offset_of, size_of}
 use Rattle.logic.specs.Below.{below}
-use Rattle.lanes.specs.Ranges.{lane_of}
-use Rattle.acts.specs.Calls.{Outcome, outcome, opening_of, begun_of, verdict_of, begin_of, step_of, settled, with_op, fresh, closed}
+use Rattle.acts.specs.Calls.{opening_of, begun_of, verdict_of, begin_of}
 use Rattle.theory.specs.Interface.{upd}
-use Rattle.demands.specs.Types.{Refusal, Cell, Terms, Check, Marking, Op, State, Memory, Ask, Answer, Opening}
+use Rattle.demands.specs.Types.{Refusal, Terms, State, Memory, Ask, Opening}
 use Rattle.demands.specs.Kinds.{writing}
-use Rattle.acts.specs.Worlds.{Machine, Started, Result, grid, Call, begin, step, World, Accepted, opened_world}
-use Rattle.demands.specs.Book.{Run, run, start}
-use Rattle.demands.specs.Demand1.{refused, begins, refused_on, unchanged, Demand1}
+use Rattle.acts.specs.Worlds.{Machine, Started, Result, grid, Call, Accepted, opened_world}
+use Rattle.demands.specs.Book.{run, start}
+use Rattle.demands.specs.Demand1.{refused, begins, Demand1}
 use Rattle.demands.specs.Demand2.{ByTheList, OneOrder}
 use Rattle.demands.specs.Demand3.{Counted}
 use Rattle.demands.specs.Demanded.{Meets, Demanded}
 use Rattle.broken.specs.Histories.{recount, history, quiet, run_book, no_one_order}
-use Rattle.bridge.specs.Refused.{stays}
-use Rattle.broken.specs.Mistakes.{stepping}
-use Rattle.broken.specs.Lost.{cell, terms, lent, opened, stray, ◌then◌, writes, reads, steps}
-use Rattle.broken.specs.Shams.{one, answering, after, refuser, fixed_answer, fixed, written_then_read, going_on, idler, four_steps, hurried, idling, hasty, hasty_one, one_more, inventor, begun_read, ends_again, twice, once_written, closed_one, No}
+use Rattle.broken.specs.Lost.{cell, lent, opened, stray}
+use Rattle.broken.specs.Shams.{one, after, refuser, fixed, written_then_read, idler, four_steps, hasty_one, inventor, begun_read, twice, once_written, closed_one, No}
 
 pub refuser_breaks_the_table : Demand1 writing refuser → ⊥
 unfolding below opening_of

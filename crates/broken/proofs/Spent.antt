@@ -1,21 +1,21 @@
 -- Two more of document 01's mistakes: one spends more words than demand 3 allows, the other leaves the step list.
 -- Assumes nothing.
-use Rattle.std.specs.Prelude.{ℕ, zero, suc, ◌≤◌, ◌≡◌, false, List, [], ◌∷◌}
+use Rattle.std.specs.Prelude.{ℕ, ◌≤◌, ◌≡◌, false, [], ◌∷◌}
 use Rattle.std.proofs.Common.{ap, arith}
 use Rattle.std.proofs.Math.Decide.{ℕ_discrete}
-use Rattle.numbers.specs.Numbers.{log_in, log2, segment_of, offset_of, size_of, link_of}
+use Rattle.numbers.specs.Numbers.{log_in, log2, segment_of, offset_of, size_of}
 use Rattle.logic.specs.Below.{below}
 use Rattle.acts.specs.Calls.{opening_of, begun_of, verdict_of, begin_of}
-use Rattle.acts.specs.Worlds.{Result, Call}
+use Rattle.acts.specs.Worlds.{Result}
 use Rattle.theory.specs.Interface.{upd, sum}
 use Rattle.demands.specs.Types.{Refusal, State, Ask, Answer}
 use Rattle.demands.specs.Kinds.{writing}
-use Rattle.demands.specs.Book.{Run, run, start}
+use Rattle.demands.specs.Book.{run}
 use Rattle.demands.specs.Demand2.{ByTheList}
 use Rattle.demands.specs.Demand3.{PoolSpent}
-use Rattle.broken.specs.Mistakes.{draws_again, unchecked}
-use Rattle.broken.specs.Lost.{cell, terms, opened, stray, ◌then◌, writes, reads, steps}
-use Rattle.broken.specs.Spent.{lost_to1, four}
+use Rattle.broken.specs.Mistakes.{unchecked}
+use Rattle.broken.specs.Lost.{cell, terms, opened, stray}
+use Rattle.broken.specs.Spent.{four}
 
 -- 22 words for four cells and two loaders, where 20 are allowed: process 0 has drawn its first segment four times.
 pub drawing_again_spends : PoolSpent (terms 2 5) four.world.state four.book → ⊥

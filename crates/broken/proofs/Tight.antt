@@ -1,19 +1,17 @@
 -- The steps of demand 3 are reached, and of the pool neither 3 words for a cell nor 1 for a loader would do. Closed runs of the
 -- grid, by computation.
 -- Assumes nothing.
-use Rattle.std.specs.Prelude.{ℕ, zero, suc, ◌≡◌, refl, true, List, [], ◌∷◌}
+use Rattle.std.specs.Prelude.{◌≡◌, refl, true, [], ◌∷◌}
 use Rattle.std.proofs.Math.Decide.{ℕ_discrete}
 use Rattle.numbers.specs.Numbers.{log_in, log2, segment_of, offset_of, size_of}
 use Rattle.logic.specs.Below.{below}
-use Rattle.acts.specs.Calls.{opening_of, begun_of, verdict_of, step_of}
+use Rattle.acts.specs.Calls.{opening_of, begun_of, verdict_of}
 use Rattle.theory.specs.Interface.{upd, sum, read, asked, write}
-use Rattle.demands.specs.Types.{State, Ask, Answer}
-use Rattle.demands.specs.Kinds.{writing}
-use Rattle.acts.specs.Worlds.{grid, Call, begin}
-use Rattle.demands.specs.Book.{Run, run, start}
+use Rattle.demands.specs.Types.{Answer}
+use Rattle.demands.specs.Book.{run}
 use Rattle.demands.specs.Demand3.{most_steps, pool_bound}
-use Rattle.broken.specs.Lost.{cell, terms, opened, ◌then◌, writes, reads, steps}
-use Rattle.broken.specs.Tight.{after, answered, reading, asking, losing, written, colliding, full, racing, crowd}
+use Rattle.broken.specs.Lost.{terms}
+use Rattle.broken.specs.Tight.{after, answered, reading, asking, losing, full, crowd}
 
 pub a_read_takes_five : answered (after 1 1 (0 ∷ []) reading) 0 ≡ Answer.Read 9 true (most_steps read)
 unfolding run upd ℕ_discrete below opening_of begun_of verdict_of log_in log2 segment_of offset_of size_of

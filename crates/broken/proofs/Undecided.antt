@@ -6,9 +6,8 @@ use Rattle.std.proofs.Common.{sym, ap, ◌∙◌, subst, inl, inr, ⊎_elim, ari
 use mathlib.Core.List.Memᴰ
 use mathlib.Core.List.{List, [], ◌∷◌, ◌++◌, Memᴰ}
 use Rattle.std.proofs.Math.Decide.{ℕ_discrete}
-use Rattle.theory.specs.Array.{Op, read, asked, write, got, done, Writing, value_by, value, written, answer}
+use Rattle.theory.specs.Array.{Op, read, asked, write, got, Writing, value_by, value, written, answer}
 use Rattle.theory.specs.Order.{Done, Entry, deeds, Orderly, Is, value_in, written_in}
-use Rattle.demands.specs.Book.{nothing, Book}
 use Rattle.demands.specs.Demand2.{OneOrder}
 use Rattle.demands.specs.Growing.{Placed, Growing}
 use Rattle.broken.specs.Undecided.{filled, first, second, seen, reading, ended_in, book}

@@ -8,20 +8,19 @@ use Rattle.std.proofs.Math.Decide.{ℕ_discrete}
 use Rattle.numbers.specs.Numbers.{fill_of, log_in, log2, segment_of, offset_of, size_of}
 use Rattle.logic.specs.Below.{below}
 use Rattle.acts.specs.Calls.{opening_of, begun_of, verdict_of}
-use Rattle.acts.specs.Worlds.{grid, Call}
-use Rattle.theory.specs.Array.{Op, read, write, got, done, Writing, answer}
+use Rattle.acts.specs.Worlds.{grid}
+use Rattle.theory.specs.Array.{Op, read, got, done, Writing, answer}
 use Rattle.theory.specs.Order.{Done, Entry, deeds, Orderly, Is, Before, value_in, written_in}
 use Rattle.theory.specs.OrderLaws.{no_false}
 use Rattle.theory.specs.Interface as Theory
 use Rattle.theory.specs.Interface.{upd}
-use Rattle.demands.specs.Types.{Ask}
 use Rattle.demands.specs.Kinds.{writing}
 use Rattle.demands.specs.Book.{Book, run}
 use Rattle.demands.specs.Demand2.{Unfinished}
 use Rattle.demands.specs.Vanishing.{Shows}
 use Rattle.demands.specs.Growing.{GrowingWith, book_of}
 use Rattle.bridge.specs.Vanish.{orderly_at, shown}
-use Rattle.broken.specs.Lost.{terms, lent, ◌then◌, writes, reads, steps}
+use Rattle.broken.specs.Lost.{terms, lent, reads}
 use Rattle.broken.specs.Waiting.{calls, more, book, wrote, looked}
 
 -- A read that ends after a write of its cell has ended, and has no place before that, cannot say that the cell is not written.

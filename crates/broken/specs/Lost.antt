@@ -1,17 +1,11 @@
 -- Histories that lose a reading: the letter's incident, and the schedules on which the mistaken machines lose one.
 -- Assumes nothing.
-use Rattle.std.specs.Prelude.{ℕ, zero, suc, refl, true, false, List, [], ◌∷◌, replicate}
-use Rattle.std.proofs.Math.Decide.{ℕ_discrete}
-use Rattle.numbers.specs.Numbers.{directory_words, pool_words, fill_of, log_in, log2, segment_of, offset_of, size_of}
-use Rattle.logic.specs.Below.{below}
+use Rattle.std.specs.Prelude.{ℕ, zero, suc, true, false, List, [], ◌∷◌, replicate}
+use Rattle.numbers.specs.Numbers.{directory_words, pool_words}
 use Rattle.steps.specs.Memory.{memory}
-use Rattle.acts.specs.Calls.{opening_of, begun_of, verdict_of}
-use Rattle.theory.specs.Interface.{upd}
 use Rattle.demands.specs.Types.{Cell, Terms, State, Memory, Ask, Answer}
 use Rattle.acts.specs.Worlds.{Machine, World, grid, Call, begin, step, opened_world}
-use Rattle.demands.specs.Book.{blank}
-use Rattle.demands.specs.Demand2.{OneOrder}
-use Rattle.broken.specs.Histories.{Heard, hear, recount, history, quiet, no_one_order}
+use Rattle.broken.specs.Histories.{Heard, hear, history}
 use Rattle.broken.specs.Mistakes.{swaps_first, no_tombstone}
 
 abbrev pub cell : ℕ → Cell

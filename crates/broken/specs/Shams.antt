@@ -1,25 +1,17 @@
 -- Five shams, an open that refuses everything, and a write that ends twice.
 -- Assumes nothing.
-use Rattle.std.specs.Prelude.{ℕ, zero, suc, ◌+◌, ◌<◌, ◌≡◌, refl, List, [], ◌∷◌, get_or}
-use Rattle.std.proofs.Common.{ap, subst, arith}
-use Rattle.std.proofs.Math.Decide.{ℕ_discrete}
-use Rattle.numbers.specs.Numbers.{fill_of, log_in, log2, segment_of, offset_of, size_of}
-use Rattle.logic.specs.Below.{below}
+use Rattle.std.specs.Prelude.{ℕ, zero, suc, ◌+◌, List, [], ◌∷◌}
 use Rattle.lanes.specs.Ranges.{lane_of}
-use Rattle.acts.specs.Calls.{Outcome, outcome, opening_of, begun_of, verdict_of, begin_of, step_of, settled, with_op, fresh, closed}
-use Rattle.theory.specs.Interface.{upd}
+use Rattle.acts.specs.Calls.{Outcome, outcome, step_of, settled, with_op, fresh, closed}
 use Rattle.demands.specs.Types.{Refusal, Cell, Terms, Check, Marking, Op, State, Memory, Ask, Answer, Opening}
 use Rattle.demands.specs.Kinds.{writing}
-use Rattle.acts.specs.Worlds.{Machine, Started, Result, grid, Call, begin, step, World, Accepted, opened_world}
+use Rattle.acts.specs.Worlds.{Machine, grid, Call, World}
 use Rattle.demands.specs.Book.{Run, run, start}
-use Rattle.demands.specs.Demand1.{refused, begins, refused_on, unchanged, Demand1}
-use Rattle.demands.specs.Demand2.{ByTheList, OneOrder}
-use Rattle.demands.specs.Demand3.{Counted}
-use Rattle.demands.specs.Demanded.{Meets, Demanded}
-use Rattle.broken.specs.Histories.{recount, history, quiet, run_book, no_one_order}
+use Rattle.demands.specs.Demand1.{refused_on, unchanged}
+use Rattle.demands.specs.Demanded.{Demanded}
 use Rattle.bridge.specs.Refused.{stays}
 use Rattle.broken.specs.Mistakes.{stepping}
-use Rattle.broken.specs.Lost.{cell, terms, lent, opened, stray, ◌then◌, writes, reads, steps}
+use Rattle.broken.specs.Lost.{cell, terms, opened, stray, ◌then◌, writes, reads, steps}
 
 -- one process, one cell, an old link that names no process
 abbrev pub one : Terms

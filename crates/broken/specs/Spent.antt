@@ -1,20 +1,13 @@
 -- A schedule on which a machine that draws again spends more words than demand 3 allows.
 -- Assumes nothing.
-use Rattle.std.specs.Prelude.{ℕ, zero, suc, ◌≤◌, ◌≡◌, false, List, [], ◌∷◌}
-use Rattle.std.proofs.Common.{ap, arith}
-use Rattle.std.proofs.Math.Decide.{ℕ_discrete}
-use Rattle.numbers.specs.Numbers.{log_in, log2, segment_of, offset_of, size_of, link_of}
-use Rattle.logic.specs.Below.{below}
-use Rattle.acts.specs.Calls.{opening_of, begun_of, verdict_of, begin_of}
-use Rattle.acts.specs.Worlds.{Result, Call}
-use Rattle.theory.specs.Interface.{upd, sum}
-use Rattle.demands.specs.Types.{Refusal, State, Ask, Answer}
+use Rattle.std.specs.Prelude.{ℕ, zero, suc, List, [], ◌∷◌}
+use Rattle.numbers.specs.Numbers.{link_of}
+use Rattle.acts.specs.Worlds.{Call}
+use Rattle.demands.specs.Types.{State, Ask}
 use Rattle.demands.specs.Kinds.{writing}
 use Rattle.demands.specs.Book.{Run, run, start}
-use Rattle.demands.specs.Demand2.{ByTheList}
-use Rattle.demands.specs.Demand3.{PoolSpent}
-use Rattle.broken.specs.Mistakes.{draws_again, unchecked}
-use Rattle.broken.specs.Lost.{cell, terms, opened, stray, ◌then◌, writes, reads, steps}
+use Rattle.broken.specs.Mistakes.{draws_again}
+use Rattle.broken.specs.Lost.{terms, opened, stray, ◌then◌, writes, steps}
 
 -- Process 0 comes to its swap, process 1 writes the cell whole, and process 0 takes its mark back: so with each of n cells.
 abbrev pub lost_to1 : ℕ → List (Call Ask (terms 2 5))

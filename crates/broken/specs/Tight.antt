@@ -1,16 +1,11 @@
 -- Runs of the grid that reach the steps of demand 3, and that need its words.
 -- Assumes nothing.
-use Rattle.std.specs.Prelude.{ℕ, zero, suc, ◌≡◌, refl, true, List, [], ◌∷◌}
-use Rattle.std.proofs.Math.Decide.{ℕ_discrete}
-use Rattle.numbers.specs.Numbers.{log_in, log2, segment_of, offset_of, size_of}
-use Rattle.logic.specs.Below.{below}
-use Rattle.acts.specs.Calls.{opening_of, begun_of, verdict_of, step_of}
-use Rattle.theory.specs.Interface.{upd, sum, read, asked, write}
+use Rattle.std.specs.Prelude.{ℕ, zero, suc, List, [], ◌∷◌}
+use Rattle.acts.specs.Calls.{step_of}
 use Rattle.demands.specs.Types.{State, Ask, Answer}
 use Rattle.demands.specs.Kinds.{writing}
 use Rattle.acts.specs.Worlds.{grid, Call, begin}
 use Rattle.demands.specs.Book.{Run, run, start}
-use Rattle.demands.specs.Demand3.{most_steps, pool_bound}
 use Rattle.broken.specs.Lost.{cell, terms, opened, ◌then◌, writes, reads, steps}
 
 abbrev pub after : (p m : ℕ) → List ℕ → List (Call Ask (terms p m)) → Run State

@@ -1,15 +1,10 @@
 -- Books of two writes that overlap and end, and of a read that comes later and tells which of them was the last.
 -- Assumes nothing.
-use Rattle.std.specs.Prelude.{ℕ, ◌≤◌, ◌<◌, ◌≡◌, refl, ◌⊎◌, ◌≢◌, Bool, true, false}
-use Rattle.std.proofs.Common.{sym, ap, ◌∙◌, subst, inl, inr, ⊎_elim, arith}
-use mathlib.Core.List.Memᴰ
-use mathlib.Core.List.{List, [], ◌∷◌, ◌++◌, Memᴰ}
-use Rattle.std.proofs.Math.Decide.{ℕ_discrete}
-use Rattle.theory.specs.Array.{Op, read, asked, write, got, done, Writing, value_by, value, written, answer}
-use Rattle.theory.specs.Order.{Done, Entry, deeds, Orderly, Is, value_in, written_in}
+use Rattle.std.specs.Prelude.{ℕ, Bool, true, false}
+use mathlib.Core.List.{List, [], ◌∷◌}
+use Rattle.theory.specs.Array.{read, write, got, done}
+use Rattle.theory.specs.Order.{Done}
 use Rattle.demands.specs.Book.{nothing, Book}
-use Rattle.demands.specs.Demand2.{OneOrder}
-use Rattle.demands.specs.Growing.{Placed, Growing}
 
 -- ---- the books
 

@@ -14,17 +14,13 @@ use Rattle.lanes.specs.declared.State.{State}
 use Rattle.lanes.specs.Ranges.{rest, lane_of, marks_of, state_fits}
 use Rattle.steps.specs.declared.Word.{Word}
 use Rattle.steps.specs.declared.Change.{Change}
-use Rattle.steps.specs.declared.Change.TheVariants as Change
 use Rattle.steps.specs.declared.Next.{Next}
-use Rattle.steps.specs.declared.Next.TheVariants as Next
 use Rattle.steps.specs.declared.Turn.{Turn}
-use Rattle.steps.specs.declared.Turn.TheVariants as Turn
 use Rattle.steps.specs.Memory.{Memory}
 use Rattle.steps.specs.Changes.{lane_after, top_after, memory_after}
 use Rattle.steps.specs.Touched.{touched}
 use Rattle.steps.proofs.OneWord.{Stores, others_stay, drawn_stays, turn_stores}
 use Rattle.acts.specs.declared.Verdict.{Verdict}
-use Rattle.acts.specs.declared.Verdict.TheVariants as Verdict
 use Rattle.acts.specs.Settled.{put_back}
 use Rattle.acts.specs.Calls.{step_refusals, settled, advance, numbers_fit, decided, verdict_of, effect_of, outcome_as, turn_in}
 use Rattle.claims.specs.Claims.{Changed, ChangesOneWord}

@@ -5,7 +5,6 @@ use Rattle.logic.specs.Determined.{Determined}
 use Rattle.numbers.specs.Numbers.{directory_word}
 use Rattle.numbers.specs.declared.Terms.{Terms}
 use Rattle.refusals.specs.declared.Refusal.{Refusal}
-use Rattle.refusals.specs.declared.Refusal.TheVariants as Refusal
 use Rattle.lanes.specs.declared.State.{State}
 use Rattle.lanes.specs.Ranges.{lane_of, state_fits}
 use Rattle.steps.specs.declared.Change.{Change}
@@ -20,7 +19,6 @@ use Rattle.acts.specs.declared.Opened.{Opened}
 use Rattle.acts.specs.Calls as Calls
 use Rattle.acts.specs.Calls.{fresh, open_of, begin_of, outcome, turn_in, step_of, settled, advance, numbers_fit}
 use Rattle.steps.specs.declared.Word.{Word}
-use Rattle.steps.specs.declared.Word.TheVariants as Word
 use Rattle.steps.specs.Touched.{touched}
 use Rattle.claims.specs.Words.{word_at, past_check}
 

@@ -8,20 +8,15 @@ use Rattle.refusals.specs.Orders.{Rule, orders}
 use Rattle.logic.specs.Determined.{by_equation, by_part}
 use Rattle.logic.specs.Pick.{pick}
 use Rattle.refusals.specs.declared.Refusal.{Refusal}
-use Rattle.refusals.specs.declared.Refusal.TheVariants as Refusal
 use Rattle.lanes.specs.declared.Op.{Op}
 use Rattle.lanes.specs.declared.Lane.{Lane}
 use Rattle.lanes.specs.declared.State.{State}
 use Rattle.lanes.specs.Ranges.{lane_of, state_fits}
 use Rattle.steps.specs.declared.Next.{Next}
-use Rattle.steps.specs.declared.Next.TheVariants as Next
 use Rattle.acts.specs.declared.Acted.{Acted}
 use Rattle.acts.specs.declared.Answer.{Answer}
-use Rattle.acts.specs.declared.Answer.TheVariants as Answer
 use Rattle.acts.specs.declared.Opening.{Opening}
-use Rattle.acts.specs.declared.Opening.TheVariants as Opening
 use Rattle.acts.specs.declared.Verdict.{Verdict}
-use Rattle.acts.specs.declared.Verdict.TheVariants as Verdict
 use Rattle.acts.specs.Settled.{put_back}
 use Rattle.acts.specs.Calls.{open_of, begin_of, step_of, opening_of, opened_as, refused_as, with_op, begin_refusals, cell_of, op_of, begun_of, stepped_as}
 use Rattle.acts.specs.Calls.{answer_of, verdict_of, effect_of, outcome, outcome_as, turn_in, Outcome}

@@ -2,7 +2,6 @@
 -- Assumes nothing.
 use Rattle.std.specs.Prelude.{ℕ, Bool, true, false}
 use Rattle.lanes.specs.declared.Op.{Op}
-use Rattle.lanes.specs.declared.Op.TheVariants as Op
 use Rattle.lanes.specs.declared.State.{State}
 use Rattle.lanes.specs.Ranges.{marks_of}
 use Rattle.steps.specs.declared.Word.{Word}

@@ -1,6 +1,6 @@
 -- All that is demanded of a machine: demand 1, the step list, and of every run from an accepted opening the rest.
 -- Assumes nothing.
-use Rattle.std.specs.Prelude.{ℕ, ◌≡◌, ◌≢◌, Bool, true, false, not, List, [], ◌∷◌, ltb}
+use Rattle.std.specs.Prelude.{◌≡◌, ◌≢◌, Bool, true, false, not, List, [], ◌∷◌, ltb}
 use Rattle.numbers.specs.Numbers.{fill_of}
 use Rattle.numbers.specs.Cells.{cell_fits}
 use Rattle.refusals.specs.Orders.{◌gives◌, orders}

@@ -3,23 +3,17 @@
 use Rattle.std.specs.Prelude.{ℕ, ◌≡◌, refl, ◌≢◌, List}
 use Rattle.std.proofs.Common.{ap, arith}
 use Rattle.refusals.specs.declared.Refusal.{Refusal}
-use Rattle.refusals.specs.declared.Refusal.TheVariants as Refusal
 use Rattle.refusals.specs.Orders.{Rule, orders}
 use Rattle.refusals.specs.Laws.{orders_then}
 use Rattle.lanes.specs.declared.State.{State}
 use Rattle.lanes.specs.Ranges.{lane_of}
 use Rattle.steps.specs.declared.Next.{Next}
-use Rattle.steps.specs.declared.Next.TheVariants as Next
 use Rattle.steps.specs.declared.Turn.{Turn}
-use Rattle.steps.specs.declared.Turn.TheVariants as Turn
 use Rattle.steps.specs.Memory.{Memory}
 use Rattle.acts.specs.declared.Acted.{Acted}
 use Rattle.acts.specs.declared.Answer.{Answer}
-use Rattle.acts.specs.declared.Answer.TheVariants as Answer
 use Rattle.acts.specs.declared.Opening.{Opening}
-use Rattle.acts.specs.declared.Opening.TheVariants as Opening
 use Rattle.acts.specs.declared.Verdict.{Verdict}
-use Rattle.acts.specs.declared.Verdict.TheVariants as Verdict
 use Rattle.acts.specs.Calls as Grid
 use Rattle.summary.specs.declared.Summary.TheVariants as Summary
 use Rattle.summary.specs.Summary.{summary_of}

@@ -14,7 +14,6 @@ use Rattle.acts.specs.declared.Opened.{Opened}
 use Rattle.acts.specs.Calls.{open_of}
 use Rattle.acts.specs.Worlds.{grid, World, world, opened_world}
 use Rattle.byte_lists.specs.declared.Put.{Put}
-use Rattle.byte_lists.specs.declared.Put.TheVariants as Put
 use Rattle.text.specs.Text.{sizes_line}
 use Rattle.byte_lists.specs.Bytes.{placed, put_of, end_of}
 use Rattle.text.specs.Lengths.{sizes_short}

@@ -13,7 +13,6 @@ use Rattle.refusals.specs.Laws.{orders_then}
 use Rattle.qhs.specs.declared.Header.{Header}
 use Rattle.qhs.specs.declared.Record.{Record}
 use Rattle.qhs.specs.declared.Reading.{Reading}
-use Rattle.qhs.specs.declared.Reading.TheVariants as Reading
 use Rattle.qhs.specs.Qhs.{terms_of, record_at, read_of}
 use Rattle.qhs.specs.Laws.{schedule}
 use Rattle.acts.specs.Calls as Grid

@@ -15,7 +15,6 @@ use Rattle.quiet.specs.declared.Quarter.TheVariants as Quarter
 use Rattle.quiet.specs.declared.Scan.TheVariants as Scan
 use Rattle.quiet.specs.Quiet.{scan_of, reading_at}
 use Rattle.summary.specs.declared.Summary.{Summary}
-use Rattle.summary.specs.declared.Summary.TheVariants as Summary
 use Rattle.summary.specs.Summary.{hour_of, summary_of}
 use Rattle.theory.specs.Array.{written}
 use Rattle.theory.specs.Order.{Done, Entry, Is, deeds, value_in, written_in}

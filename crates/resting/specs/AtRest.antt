@@ -11,7 +11,6 @@ use Rattle.refusals.specs.Orders.{◌gives◌, orders}
 use Rattle.quiet.specs.declared.Quarter.TheVariants as Quarter
 use Rattle.quiet.specs.Quiet.{looked_at, reading_at}
 use Rattle.summary.specs.declared.Summary.{Summary}
-use Rattle.summary.specs.declared.Summary.TheVariants as Summary
 use Rattle.summary.specs.Summary.{hour_of, four_from, summary_of}
 use Rattle.theory.specs.Order.{Done, Entry, Is, value_in, written_in}
 use Rattle.demands.specs.Types.{Refusal, Cell, Terms, State, Found}

@@ -6,7 +6,6 @@ use mathlib.Core.List.{List}
 use Rattle.refusals.specs.declared.Refusal.{Refusal}
 use Rattle.qhs.specs.declared.Header.{Header}
 use Rattle.qhs.specs.declared.Reading.{Reading}
-use Rattle.qhs.specs.declared.Reading.TheVariants as Reading
 use Rattle.qhs.specs.Qhs.{terms_of, read_of}
 use Rattle.qhs.specs.Laws.{schedule}
 use Rattle.lanes.specs.declared.State.{State}
@@ -17,7 +16,6 @@ use Rattle.text.specs.Text.{refused_line, file_refused_line}
 use Rattle.byte_lists.specs.Bytes.{Placed, placed, put_of}
 use Rattle.play.specs.Play.{filled, after}
 use Rattle.planners_text.specs.declared.Wrote.{Wrote}
-use Rattle.planners_text.specs.declared.Wrote.TheVariants as Wrote
 use Rattle.planners_text.specs.PlannersText.{page, write_of}
 use Rattle.sheet.specs.Sheet.{shown, shown_of, left, sheet_as, sheet_of}
 use Rattle.sheet.specs.Inner.{Small}

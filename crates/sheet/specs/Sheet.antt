@@ -3,7 +3,6 @@
 use Rattle.std.specs.Prelude.{ℕ, List}
 use Rattle.qhs.specs.declared.Header.{Header}
 use Rattle.qhs.specs.declared.Reading.{Reading}
-use Rattle.qhs.specs.declared.Reading.TheVariants as Reading
 use Rattle.qhs.specs.Qhs.{terms_of, read_of}
 use Rattle.lanes.specs.declared.State.{State}
 use Rattle.steps.specs.Memory.{Memory}
@@ -13,7 +12,6 @@ use Rattle.text.specs.Text.{refused_line, file_refused_line}
 use Rattle.byte_lists.specs.Bytes.{Placed, placed, put_of}
 use Rattle.play.specs.Play.{filled, after}
 use Rattle.planners_text.specs.declared.Wrote.{Wrote}
-use Rattle.planners_text.specs.declared.Wrote.TheVariants as Wrote
 use Rattle.planners_text.specs.PlannersText.{Page, write_of}
 
 -- The grid's text; where it is refused, `refused R`.

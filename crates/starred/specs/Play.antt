@@ -8,11 +8,8 @@ use Rattle.lanes.specs.declared.State.{State}
 use Rattle.lanes.specs.Ranges.{lane_of}
 use Rattle.steps.specs.Memory.{Memory, memory}
 use Rattle.acts.specs.declared.Ask.{Ask}
-use Rattle.acts.specs.declared.Ask.TheVariants as Ask
 use Rattle.acts.specs.declared.Answer.{Answer}
-use Rattle.acts.specs.declared.Answer.TheVariants as Answer
 use Rattle.acts.specs.declared.Opening.{Opening}
-use Rattle.acts.specs.declared.Opening.TheVariants as Opening
 use Rattle.acts.specs.Worlds.{grid, Call, begin, step, World, answer_to, world_after, after, opened_world}
 
 -- A grid of p processes and m cells whose filling rule gives 0.

@@ -1,25 +1,11 @@
 -- A swapped cell passes the check.
 -- Assumes nothing.
-use Rattle.std.specs.Prelude.{◌≡◌, true, false, ℕ, ◌<◌}
-use Rattle.std.proofs.Math.Path.{refl}
-use Rattle.std.proofs.Common.{sym, ap, ◌∙◌, arith}
-use mathlib.Core.List.Memᴰ
-use mathlib.Core.List.{List, [], ◌∷◌, ◌++◌}
-use Rattle.std.proofs.Math.Decide.{ℕ_discrete, dec_lt}
-use Rattle.theory.specs.Base.{pick}
-use Rattle.theory.specs.Array.{Op, read, asked, write, Ans, got, told, done, value, written, answer, Writing}
-use Rattle.theory.specs.Order.{Entry, deeds, value_in, written_in}
-use Rattle.theory.specs.Machine.{Grid, Link, Seen, Marking, Stage, marking, busy, Mem, keep, Next, go, end, turn_to, look, fetched, passed, plan, failed}
-use Rattle.theory.specs.Standing.{After, settled_at}
-use Rattle.theory.specs.OrderLaws
-use Rattle.theory.specs.World.{World, Swapped, Placed, Unplaced}
-use Rattle.theory.specs.Claims.{Writes, Sure, Dud}
-use Rattle.theory.specs.Inv.{Judged, sure, dud, StageOk, BusyOk, CellOk, old, new, Inv}
-use Rattle.theory.specs.Plan.{Stands, plan_stands, plan_ok}
-use Rattle.theory.specs.Log
-use Rattle.theory.specs.ClaimsKept
-use Rattle.theory.specs.Steps
-use Rattle.theory.specs.Steps.{Kept, KeptAt, Mild}
+use Rattle.std.specs.Prelude.{◌≡◌, true, ℕ, ◌<◌}
+use Rattle.std.proofs.Common.{arith}
+use Rattle.theory.specs.Order.{value_in, written_in}
+use Rattle.theory.specs.Machine.{Grid, Link}
+use Rattle.theory.specs.World.{World, Swapped}
+use Rattle.theory.specs.Inv.{CellOk, old, new, Inv}
 
 -- a swapped cell: its link passes every test of the check, it is written, and it holds its reading
 module _ {G : Grid} {old_link : ℕ → Link} {W : World} (I : Inv G old_link W) (i : ℕ) (hi : i < G.m) (t : Swapped G old_link W i) where

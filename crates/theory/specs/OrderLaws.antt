@@ -6,7 +6,7 @@ use mathlib.Core.List.Memᴰ
 use mathlib.Core.List.{List, [], ◌∷◌, ◌++◌, append_assoc, Memᴰ}
 use Rattle.std.proofs.Math.Decide.{ℕ_discrete}
 use Rattle.theory.specs.Base.{pick}
-use Rattle.theory.specs.Array.{Op, read, asked, write, got, value_by, written_by, value, written, answer}
+use Rattle.theory.specs.Array.{Op, read, asked, write, value_by, written_by, value, written}
 use Rattle.theory.specs.Order.{Done, Entry, deeds, Orderly, Is, OrderOf, Grown, value_in, written_in}
 
 pub no_false : {A : Type 0} → true ≡ false → A

@@ -1,5 +1,4 @@
 use Rattle.batch.proofs.WordLaws.{said_begun, said_going, said_read, said_written, said_asked, said_refused}
-use borrow.Author.Rules.{rules}
 use Rattle.batch.proofs.answer_of.Goals as goal
 
 pub returns-in-0 : goal.returns-in-0

@@ -1,10 +1,7 @@
-use Prim.Native.Nat.{◌-◌}
-use native.Mathlib.Omega.{arith}
 use mathlib.Core.Path.{refl, ap, ◌∙◌}
-use borrow.Author.Rules.{rules}
 use Rattle.acts.specs.Inner.{lane_at}
 use Rattle.acts.proofs.StateLaws.{judged_at}
-use Rattle.batch.proofs.BatchLaws.{Going, going_start, going_more, going_end, going_kept, entries_are}
+use Rattle.batch.proofs.BatchLaws.{going_start, going_more, going_end, going_kept, entries_are}
 use Rattle.batch.proofs.run.Goals as goal
 
 pub loop-i-init : goal.loop-i-init

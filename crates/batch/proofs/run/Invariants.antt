@@ -1,10 +1,5 @@
 use Prim.Native.Nat.{◌-◌}
-use native.Mathlib.Omega.{arith}
-use mathlib.Core.Path.{refl, ap, ◌∙◌}
-use borrow.Author.Rules.{rules}
-use Rattle.acts.specs.Inner.{lane_at}
-use Rattle.acts.proofs.StateLaws.{judged_at}
-use Rattle.batch.proofs.BatchLaws.{Going, going_start, going_more, going_end, going_kept, entries_are}
+use Rattle.batch.proofs.BatchLaws.{Going}
 use Rattle.batch.proofs.run.Given as goal
 
 abbrev pub invariant-loop-i : goal.invariant-loop-i

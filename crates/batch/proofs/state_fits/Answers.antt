@@ -1,8 +1,5 @@
-use Prim.Native.Nat.{◌≤◌, ◌-◌}
 use native.Mathlib.Omega.{arith}
-use borrow.Author.Rules.{rules}
-use Rattle.lanes.specs.Scan.{Passed, passed_none, passed_more, few_lanes}
-use Rattle.acts.proofs.StateLaws.{loop_end}
+use Rattle.lanes.specs.Scan.{passed_none, passed_more}
 use Rattle.batch.proofs.state_fits.Goals as goal
 
 pub loop-i-init : goal.loop-i-init

@@ -1,8 +1,5 @@
 use Prim.Native.Nat.{◌≤◌, ◌-◌}
-use native.Mathlib.Omega.{arith}
-use borrow.Author.Rules.{rules}
-use Rattle.lanes.specs.Scan.{Passed, passed_none, passed_more, few_lanes}
-use Rattle.acts.proofs.StateLaws.{loop_end}
+use Rattle.lanes.specs.Scan.{Passed}
 use Rattle.batch.proofs.state_fits.Given as goal
 
 abbrev pub invariant-loop-i : goal.invariant-loop-i

@@ -1,5 +1,4 @@
-use Rattle.play.proofs.FileLaws.{play_none, play_refused, play_schedule, play_ready}
-use borrow.Author.Rules.{rules}
+use Rattle.play.proofs.FileLaws.{play_refused, play_ready}
 use Rattle.play.proofs.play.Goals as goal
 
 pub schedule-requires : goal.schedule-requires

@@ -1,13 +1,6 @@
-use Prim.Native.Nat.{◌-◌}
-use mathlib.Core.Path.{◌≡◌, refl}
-use native.Mathlib.Omega.{arith}
+use mathlib.Core.Path.{refl}
 use borrow.Author.Rules.{rules}
-use lib.ListN.{length}
-use Rattle.steps.specs.Memory.{memory}
-use Rattle.acts.specs.Worlds.{world}
-use Rattle.play.specs.Inner.{list_records}
-use Rattle.play.proofs.ListLaws.{count_fits, count_less}
-use Rattle.play.proofs.RunLaws.{Going, going_start, going_sized, going_short, going_room, going_next, going_end}
+use Rattle.play.proofs.RunLaws.{going_start, going_next, going_end}
 use Rattle.play.proofs.run.Goals as goal
 
 pub loop-k-init : goal.loop-k-init

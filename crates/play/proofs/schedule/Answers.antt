@@ -1,10 +1,7 @@
-use native.Mathlib.Omega.{arith}
 use mathlib.Core.Path.{refl}
-use Rattle.qhs.specs.Parts.{part_length}
 use Rattle.play.specs.Play.{cell_room, directory_room, pool_room}
 use Rattle.play.proofs.Fills.{filled_is}
 use Rattle.play.proofs.FileLaws.{schedule_is}
-use borrow.Author.Rules.{rules}
 use Rattle.play.proofs.schedule.Goals as goal
 
 pub returns : goal.returns

@@ -1,5 +1,4 @@
 use Rattle.sheet.proofs.SheetLaws.{left_text, left_refused}
-use borrow.Author.Rules.{rules}
 use Rattle.sheet.proofs.run.Goals as goal
 
 pub returns-in-Bytes : goal.returns-in-Bytes

@@ -1,5 +1,4 @@
 use Rattle.sheet.proofs.SheetLaws.{small, sheet_refused, sheet_schedule}
-use borrow.Author.Rules.{rules}
 use Rattle.sheet.proofs.sheet.Goals as goal
 
 pub schedule-requires : goal.schedule-requires

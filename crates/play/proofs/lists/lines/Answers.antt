@@ -1,8 +1,5 @@
-use Prim.Native.Nat.{◌-◌, ◌≤◌}
 use native.Mathlib.Omega.{arith}
-use borrow.Author.Rules.{rules}
-use Rattle.play.specs.Inner.{word_lines, Shown}
-use Rattle.play.proofs.LineLaws.{lines_start, lines_next, lines_end, lines_sized}
+use Rattle.play.proofs.LineLaws.{lines_start, lines_next}
 use Rattle.play.proofs.lists.lines.Goals as goal
 
 pub loop-i-init : goal.loop-i-init

@@ -1,8 +1,5 @@
 use Prim.Native.Nat.{◌-◌, ◌≤◌}
-use native.Mathlib.Omega.{arith}
-use borrow.Author.Rules.{rules}
 use Rattle.play.specs.Inner.{word_lines, Shown}
-use Rattle.play.proofs.LineLaws.{lines_start, lines_next, lines_end, lines_sized}
 use Rattle.play.proofs.lists.lines.Given as goal
 
 abbrev pub invariant-loop-i : goal.invariant-loop-i

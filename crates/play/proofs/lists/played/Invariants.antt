@@ -1,8 +1,5 @@
 use Prim.Native.Nat.{◌-◌}
-use mathlib.Core.Path.{refl}
-use native.Mathlib.Omega.{arith}
-use borrow.Author.Rules.{rules}
-use Rattle.play.proofs.ListLaws.{Filling, filling_none, filling_more, taken_long, played_is}
+use Rattle.play.proofs.ListLaws.{Filling}
 use Rattle.play.proofs.lists.played.Given as goal
 
 abbrev pub invariant-loop-i : goal.invariant-loop-i
