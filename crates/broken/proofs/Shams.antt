@@ -17,7 +17,8 @@ use Rattle.demands.specs.Demand3.{Counted}
 use Rattle.demands.specs.Demanded.{Meets, Demanded}
 use Rattle.broken.specs.Histories.{recount, history, quiet, run_book, no_one_order}
 use Rattle.broken.specs.Lost.{cell, lent, opened, stray}
-use Rattle.broken.specs.Shams.{one, after, refuser, fixed, written_then_read, idler, four_steps, hasty_one, inventor, begun_read, twice, once_written, closed_one, No}
+use Rattle.broken.specs.Shams.{one, after, refuser, fixed, written_then_read, idler, four_steps}
+use Rattle.broken.specs.Shams.{hasty_one, inventor, begun_read, twice, once_written, closed_one, No}
 
 pub refuser_breaks_the_table : Demand1 writing refuser → ⊥
 unfolding below opening_of
