@@ -172,8 +172,8 @@ module _ (z : Terms) (top q : ℕ) (l : Lane) (seen : ℕ) (mem : Memory) (ch : 
         reads i (cell_fits_lem z n (Op.Read i c) refl h) (Steps.found z top q l (handed seen) mem i c) (found_in i c (rest_fits_lem z n (Op.Read i c) refl h)) e
     goes_on (Op.Reading i) n h e = none cc
     goes_on (Op.Asked i c) n h e =
-        asks i (cell_fits_lem z n (Op.Asked i c) refl h) (Steps.found z top q l (handed seen) mem i c) (found_in i c (rest_fits_lem z n
-        (Op.Asked i c) refl h)) e
+        asks i (cell_fits_lem z n (Op.Asked i c) refl h) (Steps.found z top q l (handed seen) mem i c)
+        (found_in i c (rest_fits_lem z n (Op.Asked i c) refl h)) e
     goes_on (Op.Store i v) n h e =
         to true (Op.Write i Check.Link) _ (record { busy = refl; cell = cell_fits_lem z n (Op.Store i v) refl h; rest = refl }) e
     goes_on (Op.Write i c) n h e =

@@ -220,8 +220,8 @@ fn verdict_of(
     pool: &[Mark],
 ) -> Verdict
     requires { Judged fits z top q.0 l seen }
-    ensures { result ≡ verdict_of fits z top q.0 l (memory readings.now links.now directory.now pool.now) (turn_of z top q.0 l (handed seen)
-        (memory readings.now links.now directory.now pool.now)) }
+    ensures { result ≡ verdict_of fits z top q.0 l (memory readings.now links.now directory.now pool.now)
+        (turn_of z top q.0 l (handed seen) (memory readings.now links.now directory.now pool.now)) }
 {
     if !fits {
         return Verdict::Refused(Refusal::OutOfRange);
@@ -268,8 +268,8 @@ pub fn act(
 ) -> Acted
     requires { Judged fits z top q.0 l seen }
     ensures { effect result (memory readings.new links.new directory.new pool.new)
-        ≡ act_of fits z top q.0 l (memory readings.old links.old directory.old pool.old) (turn_of z top q.0 l (handed seen)
-        (memory readings.old links.old directory.old pool.old)) }
+        ≡ act_of fits z top q.0 l (memory readings.old links.old directory.old pool.old)
+        (turn_of z top q.0 l (handed seen) (memory readings.old links.old directory.old pool.old)) }
 {
     let v = verdict_of(fits, z, top, q, l, seen, readings, links, directory, pool);
     match v {

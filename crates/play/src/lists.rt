@@ -42,8 +42,8 @@ pub fn played(
     pool: &mut [Mark],
 ) -> State
     requires { Short first c words.old }
-    ensures { Played bytes.now first c (world s (memory readings.old links.old directory.old pool.old)) (world result
-        (memory readings.new links.new directory.new pool.new)) words.new }
+    ensures { Played bytes.now first c (world s (memory readings.old links.old directory.old pool.old))
+        (world result (memory readings.new links.new directory.new pool.new)) words.new }
 {
     let mut kinds = [0u8; LIST];
     let mut processes = [0u32; LIST];

@@ -2,16 +2,19 @@
 #![tactic(auto)]
 
 ghost use Rattle.std.specs.Io.KnownBytes.{Consumes, IsAtEnd};
-ghost use Rattle.std.specs.Prelude.{◌<◌, ◌≤◌, IfOk, length, take};
+ghost use Rattle.std.specs.Prelude.{ℕ, ◌<◌, ◌≤◌, IfOk, OnErr, length, take};
 
 use std::io;
 use std::io::Read;
 
-// Reads until buf is full or the input ends; how many bytes came, all at the start of buf. On an empty buf it makes no call.
+// Reads until buf is full or the input ends; how many bytes came, all at the start of buf. On an empty buf it makes no call. An error
+// is the reader's own; what was read before it stands at the start of buf too.
 pub fn read_full<R: Read>(from: &mut R, buf: &mut [u8]) -> io::Result<usize>
     ensures bound { IfOk result (λ n. n ≤ length buf.new) }
     ensures bytes { IfOk result (λ n. Consumes (R.remaining from.old) (R.remaining from.new) (take n buf.new)) }
     ensures end { IfOk result (λ n. n < length buf.new → IsAtEnd (R.remaining from.new)) }
+    ensures err { OnErr result ((n : ℕ) × (n ≤ length buf.new)
+        × Consumes (R.remaining from.old) (R.remaining from.new) (take n buf.new)) }
 {
     let mut done = 0;
     while done < buf.len() {

@@ -1,5 +1,5 @@
 // Standard input, read into words of 64 bits, little-endian.
-ghost use Rattle.std.specs.Prelude.{◌+◌, ◌≤◌, ◌<◌, length, IfOk};
+ghost use Rattle.std.specs.Prelude.{◌≡◌, ◌+◌, ◌≤◌, ◌<◌, length, IfOk, OnErr};
 
 use std::io;
 use std::io::Read;
@@ -52,9 +52,10 @@ fn store(words: &mut [u64], at: usize, bytes: &[u8]) {
     }
 }
 
-// One read; how many bytes came.
+// One read; how many bytes came. A read that fails stores nothing.
 fn piece<R: Read>(from: &mut R, words: &mut [u64], at: usize) -> io::Result<usize>
-    ensures { IfOk result (λ n. n ≤ 65536) }
+    ensures ok { IfOk result (λ n. n ≤ 65536) }
+    ensures err { OnErr result (words.new ≡ words.old) }
 {
     let mut buf = [0u8; PIECE];
     let n = streams::read_full(from, &mut buf)?;

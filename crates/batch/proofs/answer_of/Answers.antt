@@ -1,3 +1,4 @@
+-- `batch::answer_of` meets its contract: what the check does not find alone.
 use Rattle.batch.proofs.WordLaws.{said_begun, said_going, said_read, said_written, said_asked, said_refused}
 use Rattle.batch.proofs.answer_of.Goals as goal
 

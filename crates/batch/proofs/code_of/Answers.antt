@@ -1,3 +1,4 @@
+-- `batch::code_of` meets its contract: what the check does not find alone.
 use Rattle.batch.proofs.WordLaws.{refusal_few, code_begun, code_going, code_read, code_written, code_asked, code_refused}
 use native.Mathlib.Omega.{arith}
 use Rattle.batch.proofs.code_of.Goals as goal

@@ -1,3 +1,4 @@
+-- `batch::run` meets its contract: what the check does not find alone.
 use mathlib.Core.Path.{refl, ap, ◌∙◌}
 use Rattle.acts.specs.Inner.{lane_at}
 use Rattle.acts.proofs.StateLaws.{judged_at}

@@ -1,3 +1,4 @@
+-- What the loop of `batch::run` keeps from turn to turn, and what falls.
 use Prim.Native.Nat.{◌-◌}
 use Rattle.batch.proofs.BatchLaws.{Going}
 use Rattle.batch.proofs.run.Given as goal

@@ -1,3 +1,4 @@
+-- `batch::state_fits` meets its contract: what the check does not find alone.
 use native.Mathlib.Omega.{arith}
 use Rattle.lanes.specs.Scan.{passed_none, passed_more}
 use Rattle.batch.proofs.state_fits.Goals as goal

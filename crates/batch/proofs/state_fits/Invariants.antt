@@ -1,3 +1,4 @@
+-- What the loop of `batch::state_fits` keeps from turn to turn, and what falls.
 use Prim.Native.Nat.{◌≤◌, ◌-◌}
 use Rattle.lanes.specs.Scan.{Passed}
 use Rattle.batch.proofs.state_fits.Given as goal

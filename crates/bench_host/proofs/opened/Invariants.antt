@@ -1,3 +1,4 @@
+-- What the loop of `bench_host::opened` keeps from turn to turn, and what falls.
 use Rattle.std.proofs.Common.{◌≡◌, ◌-◌, ◌<◌, ◌≤◌, length}
 use Rattle.bench_host.proofs.opened.Given as goal
 

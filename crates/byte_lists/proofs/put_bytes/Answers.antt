@@ -1,3 +1,4 @@
+-- `byte_lists::put_bytes` meets its contract: what the check does not find alone.
 use native.Mathlib.Omega.{arith}
 use borrow.Author.Rules.{rules}
 use Rattle.byte_lists.proofs.PutLaws.{put_past, put_none, put_next, put_all}

@@ -1,3 +1,4 @@
+-- What the loop of `byte_lists::put_bytes` keeps from turn to turn, and what falls.
 use mathlib.Core.Path.{◌≡◌}
 use Prim.Native.Nat.{◌≤◌, ◌-◌}
 use lib.ListN.{length}

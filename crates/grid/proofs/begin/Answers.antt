@@ -1,3 +1,4 @@
+-- `grid::begin` meets its contract: what the check does not find alone.
 use mathlib.Core.Path.{refl}
 use native.Mathlib.Omega.{arith}
 use Rattle.lanes.specs.Scan.{passed_none, passed_more}

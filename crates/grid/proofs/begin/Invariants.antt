@@ -1,3 +1,4 @@
+-- What the loop of `grid::begin` keeps from turn to turn, and what falls.
 use Prim.Native.Nat.{◌≤◌, ◌-◌}
 use Rattle.lanes.specs.Scan.{Passed}
 use Rattle.grid.proofs.begin.Given as goal

@@ -1,3 +1,4 @@
+-- `grid::step` meets its contract: what the check does not find alone.
 use mathlib.Core.Path.{refl, ap, sym, ◌∙◌}
 use native.Mathlib.Omega.{arith}
 use Rattle.lanes.specs.Scan.{passed_none, passed_more}

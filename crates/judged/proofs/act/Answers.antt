@@ -1,3 +1,4 @@
+-- `judged::act` meets its contract: what the check does not find alone.
 use Rattle.judged.proofs.ActLaws.{moved_fits}
 use Rattle.judged.proofs.act.Goals as goal
 

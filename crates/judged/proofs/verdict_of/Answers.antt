@@ -1,3 +1,4 @@
+-- `judged::verdict_of` meets its contract: what the check does not find alone.
 use Rattle.judged.proofs.ActLaws.{judged_9, judged_8, judged_4, judged_7, judged_on, told_known}
 use Rattle.std.proofs.Common.{ap, not}
 use Rattle.judged.proofs.verdict_of.Goals as goal

@@ -1,3 +1,4 @@
+-- `numbers::offset_of` meets its contract: what the check does not find alone.
 use Rattle.std.proofs.Common.{◌≡◌, ℕ, ◌+◌, ◌^◌, ◌<◌, ◌≤◌, arith, pow_pos, rules}
 use lib.Pow.{pow-lt}
 use Rattle.numbers.specs.Numbers.{segment_of, offset_of}

@@ -1,3 +1,4 @@
+-- `numbers::segment_of` meets its contract: what the check does not find alone.
 use Rattle.std.proofs.Common.{◌≡◌, ℕ, ◌+◌, ◌/◌, ◌<◌, arith, rules}
 use lib.Count.{count_leading_zeros, leading_top}
 use Rattle.numbers.specs.Numbers.{segment_of}

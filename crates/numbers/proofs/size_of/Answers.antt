@@ -1,3 +1,4 @@
+-- `numbers::size_of` meets its contract: what the check does not find alone.
 use Rattle.std.proofs.Common.{◌≡◌, ℕ, ◌+◌, ◌-◌, ◌%◌, ◌^◌, ◌≤◌, sym, ap, ◌∙◌, arith, pow-add}
 use native.Mathlib.Nat.{mul-mod_right}
 use Rattle.numbers.specs.Numbers.{size_of}

@@ -1,3 +1,4 @@
+-- `planners_text::put_text` meets its contract: what the check does not find alone.
 use Rattle.planners_text.proofs.WriteLaws.{lines_room, put_all}
 use Rattle.planners_text.proofs.put_text.Goals as goal
 

@@ -1,3 +1,4 @@
+-- `planners_text::write_text` meets its contract: what the check does not find alone.
 use Rattle.planners_text.proofs.WriteLaws.{write_9, write_8, write_10, write_9_word, write_text}
 use Rattle.planners_text.proofs.write_text.Goals as goal
 

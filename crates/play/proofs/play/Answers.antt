@@ -1,3 +1,4 @@
+-- `play::play` meets its contract: what the check does not find alone.
 use Rattle.play.proofs.FileLaws.{play_refused, play_ready}
 use Rattle.play.proofs.play.Goals as goal
 

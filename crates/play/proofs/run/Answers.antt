@@ -1,3 +1,4 @@
+-- `play::run` meets its contract: what the check does not find alone.
 use mathlib.Core.Path.{refl}
 use borrow.Author.Rules.{rules}
 use Rattle.play.proofs.RunLaws.{going_start, going_next, going_end}

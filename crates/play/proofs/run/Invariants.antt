@@ -1,3 +1,4 @@
+-- What the loop of `play::run` keeps from turn to turn, and what falls.
 use Prim.Native.Nat.{◌-◌}
 use mathlib.Core.Path.{◌≡◌}
 use lib.ListN.{length}
@@ -8,9 +9,9 @@ use Rattle.play.proofs.RunLaws.{Going}
 use Rattle.play.proofs.run.Given as goal
 
 abbrev pub invariant-loop-k : goal.invariant-loop-k
-invariant-loop-k l = Going l.bytes l.n (world l.initial.s
-    (memory l.initial.readings l.initial.links l.initial.directory l.initial.pool)) l.initial.out l.initial.at (world l.s
-    (memory l.readings l.links l.directory l.pool)) l.out l.at l.k
+invariant-loop-k l =
+    Going l.bytes l.n (world l.initial.s (memory l.initial.readings l.initial.links l.initial.directory l.initial.pool))
+    l.initial.out l.initial.at (world l.s (memory l.readings l.links l.directory l.pool)) l.out l.at l.k
     × ((list_records ≡ length l.words)
     × ((length l.readings ≡ length l.initial.readings)
     × ((length l.links ≡ length l.initial.links)

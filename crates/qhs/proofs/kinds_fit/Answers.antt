@@ -1,3 +1,4 @@
+-- `qhs::kinds_fit` meets its contract: what the check does not find alone.
 use Rattle.qhs.proofs.FieldLaws.{kind_there}
 use Rattle.qhs.proofs.ReadLaws.{known_none, known_next, unknown}
 use native.Mathlib.Omega.{arith}

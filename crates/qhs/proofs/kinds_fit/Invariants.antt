@@ -1,3 +1,4 @@
+-- What the loop of `qhs::kinds_fit` keeps from turn to turn, and what falls.
 use Rattle.qhs.proofs.ReadLaws.{Known}
 use Prim.Native.Nat.{◌≤◌, ◌-◌}
 use Rattle.qhs.proofs.kinds_fit.Given as goal

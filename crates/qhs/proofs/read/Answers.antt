@@ -1,3 +1,4 @@
+-- `qhs::read` meets its contract: what the check does not find alone.
 use Rattle.qhs.proofs.ReadLaws.{read_is}
 use Rattle.qhs.proofs.read.Goals as goal
 

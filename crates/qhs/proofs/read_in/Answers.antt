@@ -1,3 +1,4 @@
+-- `qhs::read_in` meets its contract: what the check does not find alone.
 use Rattle.qhs.proofs.ReadLaws.{too_long, too_short, unmarked, other_version, many_cells, left_to_records}
 use Rattle.qhs.proofs.read_in.Goals as goal
 

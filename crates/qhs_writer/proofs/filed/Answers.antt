@@ -1,3 +1,4 @@
+-- `qhs_writer::filed` meets its contract: what the check does not find alone.
 use Rattle.qhs_writer.proofs.WriteLaws.{no_room, written}
 use Rattle.qhs_writer.proofs.filed.Goals as goal
 

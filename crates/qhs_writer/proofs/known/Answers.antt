@@ -1,3 +1,4 @@
+-- `qhs_writer::known` meets its contract: what the check does not find alone.
 use Rattle.qhs_writer.proofs.WriteLaws.{known_none, known_next, known_not}
 use native.Mathlib.Omega.{arith}
 use Rattle.qhs_writer.proofs.known.Goals as goal

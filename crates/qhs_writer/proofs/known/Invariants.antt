@@ -1,3 +1,4 @@
+-- What the loop of `qhs_writer::known` keeps from turn to turn, and what falls.
 use Prim.Native.Nat.{◌≤◌, ◌-◌}
 use Rattle.qhs_writer.proofs.WriteLaws.{Known}
 use Rattle.qhs_writer.proofs.known.Given as goal

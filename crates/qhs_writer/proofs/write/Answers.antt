@@ -1,3 +1,4 @@
+-- `qhs_writer::write` meets its contract: what the check does not find alone.
 use Rattle.qhs_writer.proofs.WriteLaws.{too_long, many_cells, unknown_kind, not_counted, left_to_room}
 use Rattle.qhs_writer.proofs.write.Goals as goal
 

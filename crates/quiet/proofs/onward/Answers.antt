@@ -1,3 +1,4 @@
+-- `quiet::onward` meets its contract: what the check does not find alone.
 use Rattle.quiet.proofs.QuietLaws.{onward_on}
 use Rattle.quiet.proofs.onward.Goals as goal
 

@@ -1,3 +1,4 @@
+-- `quiet::scan_of` meets its contract: what the check does not find alone.
 use native.Mathlib.Omega.{arith}
 use Rattle.lanes.specs.Scan.{passed_none, passed_more}
 use Rattle.quiet.proofs.QuietLaws.{calm_none, calm_more}

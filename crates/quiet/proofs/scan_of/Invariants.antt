@@ -1,3 +1,4 @@
+-- What the loop of `quiet::scan_of` keeps from turn to turn, and what falls.
 use Prim.Native.Nat.{◌≤◌, ◌-◌}
 use Rattle.lanes.specs.Scan.{Passed}
 use Rattle.quiet.proofs.QuietLaws.{Calm}

@@ -1,3 +1,4 @@
+-- `sheet::run` meets its contract: what the check does not find alone.
 use Rattle.sheet.proofs.SheetLaws.{left_text, left_refused}
 use Rattle.sheet.proofs.run.Goals as goal
 

@@ -1,3 +1,4 @@
+-- `sheet::schedule` meets its contract: what the check does not find alone.
 use mathlib.Core.Path.{refl}
 use Rattle.play.specs.Play.{cell_room, directory_room, pool_room}
 use Rattle.play.proofs.Fills.{filled_is}

@@ -1,3 +1,4 @@
+-- `sheet::sheet` meets its contract: what the check does not find alone.
 use Rattle.sheet.proofs.SheetLaws.{small, sheet_refused, sheet_schedule}
 use Rattle.sheet.proofs.sheet.Goals as goal
 

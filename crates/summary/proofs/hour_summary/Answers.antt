@@ -1,3 +1,4 @@
+-- `summary::hour_summary` meets its contract: what the check does not find alone.
 use Rattle.summary.proofs.SummaryLaws.{summary_9, summary_8, summary_10, summary_5, summary_of_lem}
 use Rattle.summary.proofs.hour_summary.Goals as goal
 

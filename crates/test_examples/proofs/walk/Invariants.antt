@@ -1,3 +1,4 @@
+-- What the loop of `test_examples::walk` keeps from turn to turn, and what falls.
 use Prim.Native.Nat.{◌≤◌, ◌-◌}
 use mathlib.Core.Path.{◌≡◌}
 use lib.ListN.{length}

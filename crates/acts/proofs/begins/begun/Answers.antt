@@ -1,3 +1,4 @@
+-- `acts::begins::begun` meets its contract: what the check does not find alone.
 use Rattle.acts.proofs.BeginLaws.{begun_9, begun_4, begun_6, begun_5, begun_on}
 use Rattle.acts.proofs.begins.begun.Goals as goal
 

@@ -1,3 +1,4 @@
+-- `acts::opens::opening_of` meets its contract: what the check does not find alone.
 use Rattle.acts.proofs.OpenLaws.{no_processes, no_cells, lengths_right, lengths_wrong}
 use Rattle.acts.proofs.opens.opening_of.Goals as goal
 

@@ -1,3 +1,4 @@
+-- What the loop of `bench_host::opens::grid_begins` keeps from turn to turn, and what falls.
 use Rattle.std.proofs.Common.{◌-◌, ◌<◌, ◌≤◌}
 use Rattle.bench_host.proofs.opens.grid_begins.Given as goal
 

@@ -1,3 +1,4 @@
+-- What the loop of `bench_host::reads::grid_reads` keeps from turn to turn, and what falls.
 use Rattle.std.proofs.Common.{◌≡◌, ◌-◌, ◌<◌, ◌≤◌, length}
 use Rattle.bench_host.proofs.reads.grid_reads.Given as goal
 

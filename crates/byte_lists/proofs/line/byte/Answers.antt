@@ -1,3 +1,4 @@
+-- `byte_lists::line::byte` meets its contract: what the check does not find alone.
 use Rattle.byte_lists.proofs.LineLaws.{byte_in, byte_past}
 use Rattle.byte_lists.proofs.line.byte.Goals as goal
 

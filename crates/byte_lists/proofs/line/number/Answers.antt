@@ -1,3 +1,4 @@
+-- `byte_lists::line::number` meets its contract: what the check does not find alone.
 use Rattle.byte_lists.proofs.LineLaws.{left_next, left_last}
 use Rattle.byte_lists.proofs.line.number.Goals as goal
 

@@ -1,3 +1,4 @@
+-- What the loop of `byte_lists::line::number` keeps from turn to turn, and what falls.
 use Rattle.byte_lists.proofs.LineLaws.{Left}
 use Rattle.byte_lists.proofs.line.number.Given as goal
 

@@ -1,3 +1,4 @@
+-- `byte_lists::line::word` meets its contract: what the check does not find alone.
 use native.Mathlib.Omega.{arith}
 use Rattle.byte_lists.proofs.LineLaws.{word_start, word_next}
 use Rattle.byte_lists.proofs.line.word.Goals as goal

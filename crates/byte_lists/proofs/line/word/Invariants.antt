@@ -1,3 +1,4 @@
+-- What the loop of `byte_lists::line::word` keeps from turn to turn, and what falls.
 use Prim.Native.Nat.{◌≤◌, ◌-◌}
 use lib.ListN.{length, take}
 use Rattle.byte_lists.specs.Lines.{Grown}

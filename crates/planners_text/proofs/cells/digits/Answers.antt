@@ -1,3 +1,4 @@
+-- `planners_text::cells::digits` meets its contract: what the check does not find alone.
 use Rattle.planners_text.proofs.SizeLaws.{counted_start, counted_next, counted_end}
 use Rattle.planners_text.proofs.cells.digits.Goals as goal
 

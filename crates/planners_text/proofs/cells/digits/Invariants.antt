@@ -1,3 +1,4 @@
+-- What the loop of `planners_text::cells::digits` keeps from turn to turn, and what falls.
 use Rattle.planners_text.proofs.SizeLaws.{Counted}
 use Rattle.planners_text.proofs.cells.digits.Given as goal
 

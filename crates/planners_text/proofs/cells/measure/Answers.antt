@@ -1,3 +1,4 @@
+-- `planners_text::cells::measure` meets its contract: what the check does not find alone.
 use Rattle.planners_text.proofs.SizeLaws.{measuring_start, measuring_outside, measuring_next, measuring_end}
 use Rattle.planners_text.proofs.cells.measure.Goals as goal
 

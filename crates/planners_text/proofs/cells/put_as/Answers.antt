@@ -1,3 +1,4 @@
+-- `planners_text::cells::put_as` meets its contract: what the check does not find alone.
 use Rattle.planners_text.proofs.LaidLaws.{as_outside, as_none}
 use Rattle.planners_text.proofs.cells.put_as.Goals as goal
 

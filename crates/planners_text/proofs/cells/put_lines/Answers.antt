@@ -1,3 +1,4 @@
+-- `planners_text::cells::put_lines` meets its contract: what the check does not find alone.
 use Rattle.planners_text.proofs.LaidLaws.{laying_start, laying_room, laying_next}
 use Rattle.planners_text.proofs.cells.put_lines.Goals as goal
 

@@ -1,3 +1,4 @@
+-- What the loop of `planners_text::cells::put_lines` keeps from turn to turn, and what falls.
 use Prim.Native.Nat.{◌-◌}
 use Rattle.steps.specs.Memory.{memory}
 use Rattle.planners_text.proofs.LaidLaws.{Laying}

@@ -1,3 +1,4 @@
+-- `play::ends::state_after` meets its contract: what the check does not find alone.
 use mathlib.Core.Path.{refl}
 use Rattle.play.proofs.EndLaws.{ending_start}
 use Rattle.play.proofs.ends.state_after.Goals as goal

@@ -1,3 +1,4 @@
+-- `play::lists::lines` meets its contract: what the check does not find alone.
 use native.Mathlib.Omega.{arith}
 use Rattle.play.proofs.LineLaws.{lines_start, lines_next}
 use Rattle.play.proofs.lists.lines.Goals as goal

@@ -1,3 +1,4 @@
+-- What the loop of `play::lists::lines` keeps from turn to turn, and what falls.
 use Prim.Native.Nat.{◌-◌, ◌≤◌}
 use Rattle.play.specs.Inner.{word_lines, Shown}
 use Rattle.play.proofs.lists.lines.Given as goal

@@ -1,3 +1,4 @@
+-- `play::lists::played` meets its contract: what the check does not find alone.
 use Rattle.play.proofs.ListLaws.{played_is}
 use Rattle.play.proofs.lists.played.Goals as goal
 

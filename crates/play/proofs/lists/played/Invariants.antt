@@ -1,3 +1,4 @@
+-- What the loop of `play::lists::played` keeps from turn to turn, and what falls.
 use Prim.Native.Nat.{◌-◌}
 use Rattle.play.proofs.ListLaws.{Filling}
 use Rattle.play.proofs.lists.played.Given as goal

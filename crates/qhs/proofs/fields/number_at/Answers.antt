@@ -1,3 +1,4 @@
+-- `qhs::fields::number_at` meets its contract: what the check does not find alone.
 use Rattle.qhs.proofs.FieldLaws.{gathered_none, room, gathered_next}
 use native.Mathlib.Omega.{arith}
 use borrow.Author.Rules.{rules}

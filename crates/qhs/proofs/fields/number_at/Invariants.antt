@@ -1,3 +1,4 @@
+-- What the loop of `qhs::fields::number_at` keeps from turn to turn, and what falls.
 use Rattle.qhs.proofs.FieldLaws.{Gathered}
 use Rattle.qhs.proofs.fields.number_at.Given as goal
 

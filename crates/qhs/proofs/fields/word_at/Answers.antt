@@ -1,3 +1,4 @@
+-- `qhs::fields::word_at` meets its contract: what the check does not find alone.
 use Rattle.qhs.proofs.FieldLaws.{word_fits}
 use native.Mathlib.Omega.{arith}
 use borrow.Author.Rules.{rules}

@@ -1,3 +1,4 @@
+-- `qhs_writer::put::entries` meets its contract: what the check does not find alone.
 use Rattle.qhs_writer.proofs.LaidLaws.{laying_none, laying_next}
 use Rattle.qhs_writer.proofs.put.entries.Goals as goal
 

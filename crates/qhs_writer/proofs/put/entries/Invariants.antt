@@ -1,3 +1,4 @@
+-- What the loop of `qhs_writer::put::entries` keeps from turn to turn, and what falls.
 use Prim.Native.Nat.{◌-◌}
 use Rattle.qhs_writer.specs.Writer.{fields}
 use Rattle.qhs_writer.proofs.LaidLaws.{Laying}

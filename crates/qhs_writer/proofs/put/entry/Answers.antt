@@ -1,3 +1,4 @@
+-- `qhs_writer::put::entry` meets its contract: what the check does not find alone.
 use Rattle.qhs_writer.proofs.LaidLaws.{entry_laid}
 use Rattle.qhs_writer.proofs.put.entry.Goals as goal
 

@@ -1,3 +1,4 @@
+-- `qhs_writer::put::front` meets its contract: what the check does not find alone.
 use Rattle.qhs_writer.proofs.LaidLaws.{front_laid}
 use Rattle.qhs_writer.proofs.put.front.Goals as goal
 

@@ -1,3 +1,4 @@
+-- `qhs_writer::put::mark` meets its contract: what the check does not find alone.
 use Rattle.qhs_writer.proofs.LaidLaws.{mark_laid}
 use Rattle.qhs_writer.proofs.put.mark.Goals as goal
 

@@ -1,3 +1,4 @@
+-- `qhs_writer::put::number` meets its contract: what the check does not find alone.
 use Rattle.qhs_writer.proofs.LaidLaws.{numbered_none, numbered_next}
 use Rattle.qhs_writer.proofs.put.number.Goals as goal
 

@@ -1,3 +1,4 @@
+-- What the loop of `qhs_writer::put::number` keeps from turn to turn, and what falls.
 use Prim.Native.Nat.{◌-◌}
 use Rattle.qhs_writer.proofs.LaidLaws.{Numbered}
 use Rattle.qhs_writer.proofs.put.number.Given as goal

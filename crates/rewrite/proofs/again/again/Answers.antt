@@ -1,3 +1,4 @@
+-- `rewrite::again::again` meets its contract: what the check does not find alone.
 use Rattle.rewrite.proofs.AgainLaws.{few_records, again_refused, again_schedule}
 use Rattle.rewrite.proofs.again.again.Goals as goal
 

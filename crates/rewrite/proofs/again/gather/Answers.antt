@@ -1,3 +1,4 @@
+-- `rewrite::again::gather` meets its contract: what the check does not find alone.
 use Rattle.rewrite.proofs.AgainLaws.{cell_fits_lem, gathered_none, gathered_next}
 use native.Mathlib.Omega.{arith}
 use Rattle.rewrite.proofs.again.gather.Goals as goal

@@ -1,3 +1,4 @@
+-- What the loop of `rewrite::again::gather` keeps from turn to turn, and what falls.
 use Prim.Native.Nat.{◌-◌}
 use Rattle.rewrite.proofs.AgainLaws.{Gathered}
 use Rattle.rewrite.proofs.again.gather.Given as goal

@@ -1,3 +1,4 @@
+-- `steps::look::check` meets its contract: what the check does not find alone.
 use Rattle.steps.proofs.LookLaws.{check_b}
 use Rattle.steps.proofs.look.check.Goals as goal
 

@@ -1,3 +1,4 @@
+-- `steps::look::part_end` meets its contract: what the check does not find alone.
 use Rattle.steps.proofs.LookLaws.{part_huge, part_end}
 use Rattle.steps.proofs.look.part_end.Goals as goal
 

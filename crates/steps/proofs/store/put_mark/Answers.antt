@@ -1,3 +1,4 @@
+-- `steps::store::put_mark` meets its contract: what the check does not find alone.
 use Rattle.steps.proofs.StoreLaws.{put_part}
 use Rattle.steps.proofs.store.put_mark.Goals as goal
 

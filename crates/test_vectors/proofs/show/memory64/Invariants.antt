@@ -1,3 +1,4 @@
+-- What the loop of `test_vectors::show::memory64` keeps from turn to turn, and what falls.
 use mathlib.Core.Path.{◌≡◌}
 use Prim.Native.Nat.{◌≤◌, ◌-◌}
 use lib.ListN.{length}

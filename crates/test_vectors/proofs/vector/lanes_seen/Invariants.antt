@@ -1,3 +1,4 @@
+-- What the loop of `test_vectors::vector::lanes_seen` keeps from turn to turn, and what falls.
 use Prim.Native.Nat.{◌≤◌, ◌-◌}
 use Rattle.test_vectors.proofs.vector.lanes_seen.Given as goal
 

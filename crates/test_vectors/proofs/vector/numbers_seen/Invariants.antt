@@ -1,3 +1,4 @@
+-- What the loop of `test_vectors::vector::numbers_seen` keeps from turn to turn, and what falls.
 use Prim.Native.Nat.{◌≤◌, ◌-◌}
 use Rattle.test_vectors.proofs.vector.numbers_seen.Given as goal
 

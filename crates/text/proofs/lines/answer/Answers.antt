@@ -1,3 +1,4 @@
+-- `text::lines::answer` meets its contract: what the check does not find alone.
 use Rattle.text.proofs.SaidLaws.{answered}
 use Rattle.text.proofs.lines.answer.Goals as goal
 

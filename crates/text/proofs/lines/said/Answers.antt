@@ -1,3 +1,4 @@
+-- `text::lines::said` meets its contract: what the check does not find alone.
 use Rattle.text.proofs.SaidLaws.{said_read, said_written, said_asked, said_refused}
 use Rattle.text.proofs.lines.said.Goals as goal
 

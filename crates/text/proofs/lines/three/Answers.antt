@@ -1,3 +1,4 @@
+-- `text::lines::three` meets its contract: what the check does not find alone.
 use Rattle.text.proofs.SaidLaws.{three_is}
 use Rattle.text.proofs.lines.three.Goals as goal
 

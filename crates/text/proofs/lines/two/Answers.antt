@@ -1,3 +1,4 @@
+-- `text::lines::two` meets its contract: what the check does not find alone.
 use Rattle.text.proofs.SaidLaws.{two_is}
 use Rattle.text.proofs.lines.two.Goals as goal
 

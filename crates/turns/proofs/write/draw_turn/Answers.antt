@@ -1,3 +1,4 @@
+-- `turns::write::draw_turn` meets its contract: what the check does not find alone.
 use Rattle.turns.proofs.WriteLaws.{drawn_word, drawn_byte, draw_top, draw_wide, drawn_is}
 use Rattle.turns.proofs.write.draw_turn.Goals as goal
 
