@@ -17,7 +17,7 @@ use Rattle.numbers.specs.declared.Place.{Place}
 use Rattle.numbers.specs.declared.Terms.{Terms}
 use Rattle.numbers.specs.declared.Process.{Process}
 use Rattle.lanes.specs.declared.Check.{Check}
-use Rattle.steps.specs.declared.Got.{Got}
+use Rattle.std.specs.Prelude.{Option, None, Some}
 use Rattle.steps.specs.declared.Found.{Found}
 use Rattle.steps.specs.Inner.{handed, word_in, Part}
 use Rattle.steps.specs.declared.Next.TheVariants as Next
@@ -30,10 +30,10 @@ pub start_is : (directory : List ℕ) (q n s k r : ℕ) → s ≡ segment_of n �
 start_is directory q n s k r e f g = g ∙ rw (f, e)
 
 module _ (part : List ℕ) (at : ℕ) where
-  pub word_inside : at < length part → Got.Word (get_or part at 0) ≡ word_in part at
+  pub word_inside : at < length part → Some (get_or part at 0) ≡ word_in part at
   word_inside h = simp (lt-ltb _ _ h)
 
-  pub word_past : length part ≤ at → Got.Outside ≡ word_in part at
+  pub word_past : length part ≤ at → None ≡ word_in part at
   word_past h = simp (le-ltb _ _ h)
 
 -- where the segment's part of the pool ends
@@ -61,11 +61,11 @@ module _ (len from n s : ℕ) (h : from < len) (e : s ≡ segment_of n) where
     part_cut j = let g = size_at in let d = size_word s k in whole (omega arith)
 
 -- a word of the pool, read through the segment's part of it
-pub pool_past : (pool : List ℕ) (start n : ℕ) → length pool ≤ start → Got.Outside ≡ pool_word pool start n
+pub pool_past : (pool : List ℕ) (start n : ℕ) → length pool ≤ start → None ≡ pool_word pool start n
 pool_past pool start n h = let k : length pool ≤ start + offset_of n = omega arith in simp (le-ltb _ _ k)
 
 module _ (pool : List ℕ) (start n o : ℕ) (e : o ≡ offset_of n) where
-  pub pool_part : (end : ℕ) (r : Got) → Part (length pool) start n end → r ≡ word_in (take (end - start) (drop start pool)) o → r ≡ pool_word pool start n
+  pub pool_part : (end : ℕ) (r : Option ℕ) → Part (length pool) start n end → r ≡ word_in (take (end - start) (drop start pool)) o → r ≡ pool_word pool start n
   pool_part end r h f = f ∙ by (ltb o (end - start)) refl
     where
       low : start ≤ end
@@ -82,7 +82,7 @@ module _ (pool : List ℕ) (start n o : ℕ) (e : o ≡ offset_of n) where
           let x : o < end - start = ltb-true o (end - start) g in
           let y : start + o < length pool = omega (arith, h.high, h.low) in
           rw (length-take-le (end - start) (drop start pool) room, at_start)
-          (simp (lt-ltb _ _ x, lt-ltb _ _ y) (ap Got.Word (get_or-take _ _ _ 0 x ∙ get_or-drop start pool _ 0)))
+          (simp (lt-ltb _ _ x, lt-ltb _ _ y) (ap Some (get_or-take _ _ _ 0 x ∙ get_or-drop start pool _ 0)))
       by false g =
           let x : end - start ≤ o = ltb-false o (end - start) g in
           let y : length pool ≤ start + o = outside x (ltb (start + o) (length pool)) refl in
@@ -109,31 +109,32 @@ module _ (marks w n : ℕ) (e : n ≡ place_of w) where
   pub marks_off : marks ≤ n → Found.NotWritten w ≡ check_marks marks w
   marks_off h = let k : marks ≤ place_of w = rw e at h in simp (le-ltb _ _ k)
 
-module _ (own w x : ℕ) (g : Got) (e : g ≡ Got.Word x) where
-  pub mark_written : x ≡ own → Found.Written ≡ check_mark own w g
+module _ (own w x : ℕ) (g : Option ℕ) (e : g ≡ Some x) where
+  pub mark_written : x ≡ own → Some Found.Written ≡ check_mark own w g
   mark_written h = rw e (simp (eq-eqb _ _ h))
 
-  pub mark_not : (x ≡ own → ⊥) → Found.NotWritten w ≡ check_mark own w g
+  pub mark_not : (x ≡ own → ⊥) → Some (Found.NotWritten w) ≡ check_mark own w g
   mark_not h = rw e (simp (ne_eqb _ _ h))
 
 module _ (z : Terms) (seen : ℕ) (links directory pool : List ℕ) (i : Cell) (c : Check) where
-  abbrev checked : Found
+  abbrev checked : Option Found
   checked = check z (handed seen) links directory pool i c
 
   module _ (r : Found) where
-    pub check_a : (at w : ℕ) → c ≡ Check.Link → at ≡ index_of z i → w ≡ get_or links at 0 → r ≡ check_link z.p w → r ≡ checked
-    check_a at w e k f g = rw (e, ← k, ← f) g
+    pub check_a : (at w : ℕ) → c ≡ Check.Link → at ≡ index_of z i → w ≡ get_or links at 0 → r ≡ check_link z.p w → Some r ≡ checked
+    check_a at w e k f g = rw (e, ← k, ← f) (ap Some g)
 
-    pub check_b : (w : ℕ) → c ≡ Check.Marks w → r ≡ check_marks seen w → r ≡ checked
+    pub check_b : (w : ℕ) → c ≡ Check.Marks w → r ≡ check_marks seen w → Some r ≡ checked
     unfolding handed
-    check_b w e g = rw e g
+    check_b w e g = rw e (ap Some g)
 
-    pub check_d : (start w own : ℕ) (n : Place) (got : Got) → c ≡ Check.Mark start w → n.0 ≡ place_of w → got ≡ pool_word pool start n.0
+  module _ (r : Option Found) where
+    pub check_d : (start w own : ℕ) (n : Place) (got : Option ℕ) → c ≡ Check.Mark start w → n.0 ≡ place_of w → got ≡ pool_word pool start n.0
         → own ≡ mark_of i → r ≡ check_mark own w got → r ≡ checked
     check_d start w own n got e f g k h = rw (e, ← f, ← g, ← k) h
 
   pub check_c : (w start : ℕ) (q : Process) (n : Place) → c ≡ Check.Directory w → q.0 ≡ process_of w → n.0 ≡ place_of w
-      → start ≡ start_of directory q.0 n.0 → Found.On (Check.Mark start w) ≡ checked
+      → start ≡ start_of directory q.0 n.0 → Some (Found.On (Check.Mark start w)) ≡ checked
   check_c w start q n e f g h = rw (e, ← f, ← g, ← h)
 
 -- a read's answer

@@ -1,6 +1,6 @@
 -- A turn changes at most the one shared word that it touches: every other word stays.
 -- Assumes nothing.
-use Rattle.std.specs.Prelude.{ℕ, ◌+◌, ◌≡◌, refl, ◌≢◌, Bool, true, false, eqb, get_or}
+use Rattle.std.specs.Prelude.{ℕ, ◌+◌, ◌≡◌, refl, ◌≢◌, Bool, true, false, Option, None, Some, eqb, get_or}
 use Rattle.std.proofs.Common.{ap, arith, get_or-set_other}
 use Rattle.logic.specs.Pick.{pick}
 use Rattle.numbers.specs.Numbers.{offset_of}
@@ -15,7 +15,6 @@ use Rattle.steps.specs.declared.Word.{Word}
 use Rattle.steps.specs.declared.Change.{Change}
 use Rattle.steps.specs.declared.Next.{Next}
 use Rattle.steps.specs.declared.Found.{Found}
-use Rattle.steps.specs.declared.Got.{Got}
 use Rattle.steps.specs.declared.Turn.{Turn}
 use Rattle.steps.specs.Memory.{Memory}
 use Rattle.steps.specs.Steps as Steps
@@ -119,39 +118,42 @@ drawn_stays q l (Change.Top t n) w e h = absurd (h e)
 -- ---- the change of a turn is to the word that it touches
 
 module _ (z : Terms) (top q : ℕ) (l : Lane) (in_force : ℕ → ℕ) (mem : Memory) (ch : Change) (nx : Next) where
-  abbrev Turns : Turn → Type 0
-  Turns t = t ≡ Turn.Turned ch nx
+  abbrev Turns : Option Turn → Type 0
+  Turns t = t ≡ Some (Steps.makes ch nx)
 
   none : {A : Type 0} → ◌≡◌ {A = ℕ} 0 1 → A
   none h = absurd (omega arith)
 
-  this : (w : Word) (d : Change) (m : Next) → Stores q d w → Turns (Turn.Turned d m) → Stores q ch w
-  this w d m h e = let f : d ≡ ch = cc in rw (← f) h
+  this : (w : Word) (d : Change) (m : Next) → Stores q d w → Turns (Some (Steps.makes d m)) → Stores q ch w
+  this w d m h e =
+      let g : Steps.makes d m ≡ Steps.makes ch nx = cc in
+      let f : d ≡ ch = ap (λ (t : Turn). t.change) g in
+      rw (← f) h
 
-  reads : (w : Word) (i : Cell) (f : Found) → Turns (Steps.read_turn z i f) → Stores q ch w
-  reads w i Found.Outside e = none cc
-  reads w i (Found.On c) e = this w Change.Nothing _ tt e
-  reads w i (Found.NotWritten x) e = this w Change.Nothing _ tt e
-  reads w i Found.Written e = this w Change.Nothing _ tt e
+  reads : (w : Word) (i : Cell) (f : Option Found) → Turns (Steps.read_turn z i f) → Stores q ch w
+  reads w i None e = none cc
+  reads w i (Some (Found.On c)) e = this w Change.Nothing _ tt e
+  reads w i (Some (Found.NotWritten x)) e = this w Change.Nothing _ tt e
+  reads w i (Some Found.Written) e = this w Change.Nothing _ tt e
 
-  asks : (w : Word) (i : Cell) (f : Found) → Turns (Steps.asked_turn i f) → Stores q ch w
-  asks w i Found.Outside e = none cc
-  asks w i (Found.On c) e = this w Change.Nothing _ tt e
-  asks w i (Found.NotWritten x) e = this w Change.Nothing _ tt e
-  asks w i Found.Written e = this w Change.Nothing _ tt e
+  asks : (w : Word) (i : Cell) (f : Option Found) → Turns (Steps.asked_turn i f) → Stores q ch w
+  asks w i None e = none cc
+  asks w i (Some (Found.On c)) e = this w Change.Nothing _ tt e
+  asks w i (Some (Found.NotWritten x)) e = this w Change.Nothing _ tt e
+  asks w i (Some Found.Written) e = this w Change.Nothing _ tt e
 
-  checks : (w : Word) (i : Cell) (f : Found) → Turns (Steps.checked_turn q l i f) → Stores q ch w
-  checks w i Found.Outside e = none cc
-  checks w i (Found.On c) e = this w Change.Nothing _ tt e
-  checks w i (Found.NotWritten x) e = this w Change.Nothing _ tt e
-  checks w i Found.Written e = this w Change.Nothing _ tt e
+  checks : (w : Word) (i : Cell) (f : Option Found) → Turns (Steps.checked_turn q l i f) → Stores q ch w
+  checks w i None e = none cc
+  checks w i (Some (Found.On c)) e = this w Change.Nothing _ tt e
+  checks w i (Some (Found.NotWritten x)) e = this w Change.Nothing _ tt e
+  checks w i (Some Found.Written) e = this w Change.Nothing _ tt e
 
-  puts : (start : ℕ) (i : Cell) (n : Place) (mark : ℕ) (k : Marking) (g : Got) → Turns (Steps.stored start i n mark k g)
+  puts : (start : ℕ) (i : Cell) (n : Place) (mark : ℕ) (k : Marking) (g : Option ℕ) → Turns (Steps.stored start i n mark k g)
       → Stores q ch (Word.Pool (start + offset_of n.0))
-  puts start i n mark k Got.Outside e = none cc
-  puts start i n mark k (Got.Word old) e = this _ (Change.Mark start n mark) _ refl e
+  puts start i n mark k None e = none cc
+  puts start i n mark k (Some old) e = this _ (Change.Mark start n mark) _ refl e
 
-  swaps : (w : Word) (b : Bool) (d : Change) (o : Op) → Turns (pick b (Turn.Turned d Next.Written) (Steps.goes o)) → Stores q d w → Stores q ch w
+  swaps : (w : Word) (b : Bool) (d : Change) (o : Op) → Turns (Some (pick b (Steps.makes d Next.Written) (Steps.goes o))) → Stores q d w → Stores q ch w
   swaps w true d o e h = this w d _ h e
   swaps w false d o e h = this w Change.Nothing _ tt e
 

@@ -10,18 +10,9 @@ pub mod store;
 use lanes::{Check, Op};
 use numbers::{Cell, Mark, Place, Terms};
 
-// A word of the pool, or that it lies outside.
-#[derive(Clone, Copy)]
-pub enum Got {
-    Outside,
-    Word(Mark),
-}
-
 // What a step of a check shows.
 #[derive(Clone, Copy)]
 pub enum Found {
-    // The mark's word lies outside the pool.
-    Outside,
     On(Check),
     NotWritten(u64),
     Written,
@@ -66,10 +57,9 @@ pub enum Next {
 
 // What one step does.
 #[derive(Clone, Copy)]
-pub enum Turn {
-    // The word to be touched lies outside its memory.
-    Outside,
-    Turned(Change, Next),
+pub struct Turn {
+    pub change: Change,
+    pub next: Next,
 }
 
 // The two answers of a read: each has its value and its flag from one place.

@@ -3,7 +3,7 @@ ghost use Rattle.std.specs.Prelude.{◌≡◌, ◌<◌, get_or};
 ghost use Rattle.steps.specs.Steps.{check_link, check_marks, check_mark, check, start_of, pool_word};
 ghost use Rattle.steps.specs.Inner.{handed, word_in, Part};
 
-use super::{Found, Got};
+use super::Found;
 use lanes::Check;
 use numbers::{Cell, Mark, Place, Process, Terms};
 
@@ -30,14 +30,10 @@ pub fn start_of(directory: &[u32], q: Process, n: Place) -> u32
     )
 }
 
-fn word_in(part: &[Mark], at: usize) -> Got
+fn word_in(part: &[Mark], at: usize) -> Option<Mark>
     ensures { result ≡ word_in part.now at }
 {
-    if at < part.len() {
-        Got::Word(part[at])
-    } else {
-        Got::Outside
-    }
+    part.get(at).copied()
 }
 
 // Where the segment's part of the pool ends: with the segment, or with the pool.
@@ -54,13 +50,14 @@ pub fn part_end(len: usize, from: usize, n: Place) -> usize
     if size <= len - from { from + size } else { len }
 }
 
-// The mark at place n of the segment that starts there: the segment's part of the pool is handed on.
-pub fn pool_word(pool: &[Mark], start: u32, n: Place) -> Got
+// The mark at place n of the segment that starts there, or none where it lies outside the pool: the segment's part of the pool is
+// handed on.
+pub fn pool_word(pool: &[Mark], start: u32, n: Place) -> Option<Mark>
     ensures { result ≡ pool_word pool.now start n.0 }
 {
     let from = start as usize;
     if pool.len() <= from {
-        return Got::Outside;
+        return None;
     }
     let end = part_end(pool.len(), from, n);
     word_in(&pool[from..end], numbers::offset_of(n) as usize)
@@ -86,22 +83,17 @@ fn check_marks(marks: u32, w: u64) -> Found
     }
 }
 
-fn check_mark(own: Mark, w: u64, got: Got) -> Found
-    ensures { result ≡ check_mark own w got }
+fn check_mark(own: Mark, w: u64, mark: Option<Mark>) -> Option<Found>
+    ensures { result ≡ check_mark own w mark }
 {
-    match got {
-        Got::Outside => Found::Outside,
-        Got::Word(mark) => {
-            if mark == own {
-                Found::Written
-            } else {
-                Found::NotWritten(w)
-            }
-        }
-    }
+    Some(if mark? == own {
+        Found::Written
+    } else {
+        Found::NotWritten(w)
+    })
 }
 
-// One step of the check of cell i. `seen` is the marks in force that (b) reads.
+// One step of the check of cell i; none where the mark's word lies outside the pool. `seen` is the marks in force that (b) reads.
 pub fn check(
     z: Terms,
     seen: u32,
@@ -110,19 +102,19 @@ pub fn check(
     pool: &[Mark],
     i: Cell,
     c: Check,
-) -> Found
+) -> Option<Found>
     ensures { result ≡ check z (handed seen) links.now directory.now pool.now i c }
 {
     match c {
-        Check::Link => check_link(z.p, wide(links, numbers::index_of(z, i))),
-        Check::Marks(w) => check_marks(seen, w),
+        Check::Link => Some(check_link(z.p, wide(links, numbers::index_of(z, i)))),
+        Check::Marks(w) => Some(check_marks(seen, w)),
         Check::Directory(w) => {
             let start = start_of(directory, numbers::process_of(w), numbers::place_of(w));
-            Found::On(Check::Mark(start, w))
+            Some(Found::On(Check::Mark(start, w)))
         }
         Check::Mark(start, w) => {
-            let got = pool_word(pool, start, numbers::place_of(w));
-            check_mark(numbers::mark_of(i), w, got)
+            let mark = pool_word(pool, start, numbers::place_of(w));
+            check_mark(numbers::mark_of(i), w, mark)
         }
     }
 }

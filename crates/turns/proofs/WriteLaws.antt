@@ -19,13 +19,13 @@ use Rattle.lanes.specs.declared.Op.{Op}
 use Rattle.lanes.specs.declared.Lane.{Lane}
 use Rattle.lanes.specs.Ranges.{place_in, place_fits, lane_fits, sizes_fit}
 use Rattle.lanes.specs.Laws.{Sized, sized, lane_ok, rest_fits_lem}
-use Rattle.steps.specs.declared.Got.{Got}
+use Rattle.std.specs.Prelude.{Option, None, Some}
 use Rattle.steps.specs.declared.Found.{Found}
 use Rattle.steps.specs.declared.Change.TheVariants as Change
 use Rattle.steps.specs.declared.Next.{Next}
 use Rattle.steps.specs.declared.Turn.{Turn}
 use Rattle.steps.specs.Memory.{Memory}
-use Rattle.steps.specs.Steps.{not_written_read, written_read, goes, marks, start_of, pool_word, tombstone_first, marking_at, marking_next, entered}
+use Rattle.steps.specs.Steps.{not_written_read, written_read, makes, goes, marks, start_of, pool_word, tombstone_first, marking_at, marking_next, entered}
 use Rattle.steps.specs.Steps.{read_turn, asked_turn, checked_turn, draw_turn, enter_turn, put_turn, swap_turn, marking_turn, found, op_turn}
 
 module _ (q w r : ℕ) (n : Place) (e : r ≡ link_of q n.0) where
@@ -57,22 +57,22 @@ module _ (q w : ℕ) (stored : Bool) (n : Place) where
   entered_first k h e = rw h e
 
 -- an arm of a match on what was found: what is known of the constructor is known of the value
-pub read_unwritten : (z : Terms) (i : Cell) (f : Found) (w : ℕ) (n : Next) → f ≡ Found.NotWritten w → n ≡ not_written_read z i
-    → Turn.Turned Change.Nothing n ≡ read_turn z i f
+pub read_unwritten : (z : Terms) (i : Cell) (f : Option Found) (w : ℕ) (n : Next) → f ≡ Some (Found.NotWritten w) → n ≡ not_written_read z i
+    → Some (makes Change.Nothing n) ≡ read_turn z i f
 read_unwritten z i f w n e h = rw (e, h)
 
-pub read_arm : (z : Terms) (i : Cell) (f g : Found) (r : Turn) → f ≡ g → r ≡ read_turn z i g → r ≡ read_turn z i f
+pub read_arm : (z : Terms) (i : Cell) (f g : Option Found) (r : Option Turn) → f ≡ g → r ≡ read_turn z i g → r ≡ read_turn z i f
 read_arm z i f g r e h = rw e h
 
-pub asked_arm : (i : Cell) (f g : Found) (r : Turn) → f ≡ g → r ≡ asked_turn i g → r ≡ asked_turn i f
+pub asked_arm : (i : Cell) (f g : Option Found) (r : Option Turn) → f ≡ g → r ≡ asked_turn i g → r ≡ asked_turn i f
 asked_arm i f g r e h = rw e h
 
-pub checked_arm : (q : ℕ) (l : Lane) (i : Cell) (f g : Found) (r : Turn) → f ≡ g → r ≡ checked_turn q l i g → r ≡ checked_turn q l i f
+pub checked_arm : (q : ℕ) (l : Lane) (i : Cell) (f g : Option Found) (r : Option Turn) → f ≡ g → r ≡ checked_turn q l i g → r ≡ checked_turn q l i f
 checked_arm q l i f g r e h = rw e h
 
-pub checked_not : (q w : ℕ) (l : Lane) (i : Cell) (f : Found) (k : Marking) (r : Turn) → f ≡ Found.NotWritten w → k ≡ marking_at q l w
-    → r ≡ goes (Op.Marking i k) → r ≡ checked_turn q l i f
-checked_not q w l i f k r e h g = rw e (g ∙ rw h)
+pub checked_not : (q w : ℕ) (l : Lane) (i : Cell) (f : Option Found) (k : Marking) (r : Turn) → f ≡ Some (Found.NotWritten w) → k ≡ marking_at q l w
+    → r ≡ goes (Op.Marking i k) → Some r ≡ checked_turn q l i f
+checked_not q w l i f k r e h g = rw e (ap Some (g ∙ rw h))
 
 -- a draw within the ranges fits its fields
 module _ (z : Terms) (top : ℕ) (n : Place) (s : ℕ) (h : sizes_fit z top ≡ true) (k : place_fits z n ≡ true) (e : s ≡ segment_of n.0) where
@@ -119,19 +119,19 @@ pub enter_is : (q at s start w : ℕ) (i : Cell) (b : Bool) (n : Place) (k : Mar
     → k ≡ entered q b w n → r ≡ marks (Change.Directory at start) i k → r ≡ enter_turn q i b start w n
 enter_is q at s start w i b n k r e f g h = h ∙ rw (f, e, g)
 
-module _ (q mark start : ℕ) (directory pool : List ℕ) (i : Cell) (n : Place) (k : Marking) (got : Got)
+module _ (q mark start : ℕ) (directory pool : List ℕ) (i : Cell) (n : Place) (k : Marking) (got : Option ℕ)
     (e : start ≡ start_of directory q n.0) (f : got ≡ pool_word pool start n.0) where
-  pub put_outside : got ≡ Got.Outside → Turn.Outside ≡ put_turn q directory pool i n mark k
+  pub put_outside : got ≡ None → None ≡ put_turn q directory pool i n mark k
   put_outside h = rw (← e, ← f, h)
 
-  pub put_inside : (x : ℕ) (r : Turn) → got ≡ Got.Word x → r ≡ marks (Change.Mark start n mark) i k → r ≡ put_turn q directory pool i n mark k
-  put_inside x r h g = rw (← e, ← f, h) g
+  pub put_inside : (x : ℕ) (r : Turn) → got ≡ Some x → r ≡ marks (Change.Mark start n mark) i k → Some r ≡ put_turn q directory pool i n mark k
+  put_inside x r h g = rw (← e, ← f, h) (ap Some g)
 
 module _ (z : Terms) (q w at is : ℕ) (links : List ℕ) (i : Cell) (n : Place) (a : at ≡ index_of z i) (e : is ≡ get_or links at 0) where
   now_is : is ≡ get_or links (index_of z i) 0
   now_is = e ∙ rw a
 
-  pub swap_won : (r : ℕ) → is ≡ w → r ≡ link_of q n.0 → Turn.Turned (Change.Link at r) Next.Written ≡ swap_turn z q links i w n
+  pub swap_won : (r : ℕ) → is ≡ w → r ≡ link_of q n.0 → makes (Change.Link at r) Next.Written ≡ swap_turn z q links i w n
   swap_won r h f = rw (eq-eqb _ _ (sym now_is ∙ h), f, a)
 
   pub swap_lost : (r : Turn) → (is ≡ w → ⊥) → r ≡ goes (Op.Marking i (Marking.TakeBack n)) → r ≡ swap_turn z q links i w n
@@ -164,8 +164,8 @@ module _ (z : Terms) (top : ℕ) (k : Marking) (h : sizes_fit z top ≡ true) (g
     pub take_back_word : k ≡ Marking.TakeBack n → n.0 < 4294967296
     take_back_word e = let low = at_place (Marking.TakeBack n) e refl in omega arith
 
-module _ (z : Terms) (top q : ℕ) (l : Lane) (links directory pool : List ℕ) (i : Cell) (k : Marking) (r : Turn) where
-  abbrev taken : Marking → Turn
+module _ (z : Terms) (top q : ℕ) (l : Lane) (links directory pool : List ℕ) (i : Cell) (k : Marking) (r : Option Turn) where
+  abbrev taken : Marking → Option Turn
   taken = marking_turn z top q l links directory pool i
 
   pub marking_arm : (j : Marking) → k ≡ j → r ≡ taken j → r ≡ taken k
@@ -179,31 +179,31 @@ module _ (z : Terms) (top q : ℕ) (l : Lane) (links directory pool : List ℕ) 
       → r ≡ put_turn q directory pool i n own (Marking.Force w n) → r ≡ taken k
   marking_mark w own n e f h = rw e (h ∙ ap (λ (x : ℕ). put_turn q directory pool i n x (Marking.Force w n)) f)
 
-module _ (z : Terms) (top q : ℕ) (l : Lane) (in_force : ℕ → ℕ) (mem : Memory) (r : Turn) where
-  abbrev turned : Op → Turn
+module _ (z : Terms) (top q : ℕ) (l : Lane) (in_force : ℕ → ℕ) (mem : Memory) (r : Option Turn) where
+  abbrev turned : Op → Option Turn
   turned = op_turn z top q l in_force mem
 
-  abbrev seen : Cell → Check → Found
+  abbrev seen : Cell → Check → Option Found
   seen = found z top q l in_force mem
 
   pub op_arm : (o : Op) → l.op ≡ o → r ≡ turned o → r ≡ turned l.op
   op_arm o e h = h ∙ ap turned (sym e)
 
-  pub op_read : (i : Cell) (c : Check) (f : Found) → l.op ≡ Op.Read i c → f ≡ seen i c → r ≡ read_turn z i f → r ≡ turned l.op
+  pub op_read : (i : Cell) (c : Check) (f : Option Found) → l.op ≡ Op.Read i c → f ≡ seen i c → r ≡ read_turn z i f → r ≡ turned l.op
   op_read i c f e g h = rw (e, ← g) h
 
-  pub op_reading : (i : Cell) (n : Next) → l.op ≡ Op.Reading i → n ≡ written_read z mem.readings i → r ≡ Turn.Turned Change.Nothing n
+  pub op_reading : (i : Cell) (n : Next) → l.op ≡ Op.Reading i → n ≡ written_read z mem.readings i → r ≡ Some (makes Change.Nothing n)
       → r ≡ turned l.op
-  op_reading i n e f h = rw e (h ∙ ap (Turn.Turned Change.Nothing) f)
+  op_reading i n e f h = rw e (h ∙ ap (λ (x : Next). Some (makes Change.Nothing x)) f)
 
-  pub op_asked : (i : Cell) (c : Check) (f : Found) → l.op ≡ Op.Asked i c → f ≡ seen i c → r ≡ asked_turn i f → r ≡ turned l.op
+  pub op_asked : (i : Cell) (c : Check) (f : Option Found) → l.op ≡ Op.Asked i c → f ≡ seen i c → r ≡ asked_turn i f → r ≡ turned l.op
   op_asked i c f e g h = rw (e, ← g) h
 
-  pub op_write : (i : Cell) (c : Check) (f : Found) → l.op ≡ Op.Write i c → f ≡ seen i c → r ≡ checked_turn q l i f → r ≡ turned l.op
+  pub op_write : (i : Cell) (c : Check) (f : Option Found) → l.op ≡ Op.Write i c → f ≡ seen i c → r ≡ checked_turn q l i f → r ≡ turned l.op
   op_write i c f e g h = h ∙ ap (checked_turn q l i) g ∙ ap turned (sym e)
 
 pub op_store : (z : Terms) (top q : ℕ) (l : Lane) (in_force : ℕ → ℕ) (mem : Memory) (i : Cell) (v at : ℕ) → l.op ≡ Op.Store i v → at ≡ index_of z i
-    → Turn.Turned (Change.Reading at v) (Next.Going (Op.Write i Check.Link)) ≡ op_turn z top q l in_force mem l.op
+    → Some (makes (Change.Reading at v) (Next.Going (Op.Write i Check.Link))) ≡ op_turn z top q l in_force mem l.op
 op_store z top q l in_force mem i v at e f = rw (e, f)
 
 pub marking_fits : (z : Terms) (l : Lane) (i : Cell) (k : Marking) → lane_fits z l ≡ true → l.op ≡ Op.Marking i k → place_fits z (place_in k) ≡ true

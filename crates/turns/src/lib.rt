@@ -5,7 +5,7 @@ ghost use Rattle.std.specs.Prelude.{◌≡◌, true};
 ghost use Rattle.lanes.specs.Ranges.{lane_fits, sizes_fit};
 ghost use Rattle.steps.specs.Memory.{memory};
 ghost use Rattle.steps.specs.Inner.{handed};
-ghost use Rattle.steps.specs.Steps.{goes, read_turn, asked_turn, turn_of};
+ghost use Rattle.steps.specs.Steps.{makes, goes, ends, read_turn, asked_turn, turn_of};
 
 mod write;
 
@@ -13,35 +13,49 @@ use lanes::{Check, Lane, Op};
 use numbers::{Cell, Mark, Process, Terms};
 use steps::{Change, Found, Next, Turn, look};
 
+fn makes(change: Change, next: Next) -> Turn
+    ensures { result ≡ makes change next }
+{
+    Turn {
+        change,
+        next,
+    }
+}
+
 fn goes(o: Op) -> Turn
     ensures { result ≡ goes o }
 {
-    Turn::Turned(Change::Nothing, Next::Going(o))
+    makes(Change::Nothing, Next::Going(o))
 }
 
-fn read_turn(z: Terms, i: Cell, found: Found) -> Turn
+fn ends(answer: Next) -> Turn
+    ensures { result ≡ ends answer }
+{
+    makes(Change::Nothing, answer)
+}
+
+fn read_turn(z: Terms, i: Cell, found: Option<Found>) -> Option<Turn>
     ensures { result ≡ read_turn z i found }
 {
-    match found {
-        Found::Outside => Turn::Outside,
+    Some(match found? {
         Found::On(c) => goes(Op::Read(i, c)),
-        Found::NotWritten(_) => Turn::Turned(Change::Nothing, steps::not_written_read(z, i)),
+        Found::NotWritten(_) => ends(steps::not_written_read(z, i)),
         Found::Written => goes(Op::Reading(i)),
-    }
+    })
 }
 
-fn asked_turn(i: Cell, found: Found) -> Turn
+fn asked_turn(i: Cell, found: Option<Found>) -> Option<Turn>
     ensures { result ≡ asked_turn i found }
 {
-    match found {
-        Found::Outside => Turn::Outside,
+    Some(match found? {
         Found::On(c) => goes(Op::Asked(i, c)),
-        Found::NotWritten(_) => Turn::Turned(Change::Nothing, Next::Asked(false)),
-        Found::Written => Turn::Turned(Change::Nothing, Next::Asked(true)),
-    }
+        Found::NotWritten(_) => ends(Next::Asked(false)),
+        Found::Written => ends(Next::Asked(true)),
+    })
 }
 
-// One step of process q, whose lane is l. `seen` is the marks in force that (b) reads: those of the process that the link names.
+// One step of process q, whose lane is l; none where the word to be touched lies outside its memory. `seen` is the marks in force
+// that (b) reads: those of the process that the link names.
 pub fn turn_of(
     z: Terms,
     top: u32,
@@ -52,26 +66,26 @@ pub fn turn_of(
     links: &[u64],
     directory: &[u32],
     pool: &[Mark],
-) -> Turn
+) -> Option<Turn>
     requires { (sizes_fit z top ≡ true) × (lane_fits z l ≡ true) }
     ensures { result ≡ turn_of z top q.0 l (handed seen) (memory readings.now links.now directory.now pool.now) }
 {
     let o = l.op;
     match o {
-        Op::Idle => Turn::Outside,
+        Op::Idle => None,
         Op::Read(i, c) => {
             let found = look::check(z, seen, links, directory, pool, i, c);
             read_turn(z, i, found)
         }
-        Op::Reading(i) => Turn::Turned(Change::Nothing, steps::written_read(z, readings, i)),
+        Op::Reading(i) => Some(ends(steps::written_read(z, readings, i))),
         Op::Asked(i, c) => {
             let found = look::check(z, seen, links, directory, pool, i, c);
             asked_turn(i, found)
         }
-        Op::Store(i, v) => Turn::Turned(
+        Op::Store(i, v) => Some(makes(
             Change::Reading(numbers::index_of(z, i), v),
             Next::Going(Op::Write(i, Check::Link)),
-        ),
+        )),
         Op::Write(i, c) => {
             let found = look::check(z, seen, links, directory, pool, i, c);
             write::checked_turn(q, l, i, found)

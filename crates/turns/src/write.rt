@@ -6,12 +6,12 @@ ghost use Rattle.steps.specs.Steps.{checked_turn, draw_turn, enter_turn, put_tur
 
 use lanes::{Lane, Marking, Op};
 use numbers::{Cell, Mark, Place, Process, Terms};
-use steps::{Change, Found, Got, Next, Turn, look};
+use steps::{Change, Found, Next, Turn, look};
 
 fn marks(change: Change, i: Cell, k: Marking) -> Turn
     ensures { result ≡ marks change i k }
 {
-    Turn::Turned(change, Next::Going(Op::Marking(i, k)))
+    super::makes(change, Next::Going(Op::Marking(i, k)))
 }
 
 fn tombstone_first(q: Process, w: u64, n: Place) -> Marking
@@ -56,15 +56,14 @@ fn entered(q: Process, stored: bool, w: u64, n: Place) -> Marking
     }
 }
 
-pub fn checked_turn(q: Process, l: Lane, i: Cell, found: Found) -> Turn
+pub fn checked_turn(q: Process, l: Lane, i: Cell, found: Option<Found>) -> Option<Turn>
     ensures { result ≡ checked_turn q.0 l i found }
 {
-    match found {
-        Found::Outside => Turn::Outside,
+    Some(match found? {
         Found::On(c) => super::goes(Op::Write(i, c)),
         Found::NotWritten(w) => super::goes(Op::Marking(i, marking_at(q, l, w))),
-        Found::Written => Turn::Turned(Change::Nothing, Next::Written),
-    }
+        Found::Written => super::ends(Next::Written),
+    })
 }
 
 fn draw_turn(z: Terms, top: u32, i: Cell, stored: bool, w: u64, n: Place) -> Turn
@@ -89,7 +88,7 @@ fn enter_turn(q: Process, i: Cell, stored: bool, start: u32, w: u64, n: Place) -
     marks(Change::Directory(at, start), i, k)
 }
 
-// A word goes to the own place n, and the write goes on with the marking k.
+// A word goes to the own place n, if it has one in the pool, and the write goes on with the marking k.
 fn put_turn(
     q: Process,
     directory: &[u32],
@@ -98,15 +97,12 @@ fn put_turn(
     n: Place,
     mark: Mark,
     k: Marking,
-) -> Turn
+) -> Option<Turn>
     ensures { result ≡ put_turn q.0 directory.now pool.now i n mark k }
 {
     let start = look::start_of(directory, q, n);
-    let got = look::pool_word(pool, start, n);
-    match got {
-        Got::Outside => Turn::Outside,
-        Got::Word(_) => marks(Change::Mark(start, n, mark), i, k),
-    }
+    look::pool_word(pool, start, n)?;
+    Some(marks(Change::Mark(start, n, mark), i, k))
 }
 
 fn swap_turn(z: Terms, q: Process, links: &[u64], i: Cell, w: u64, n: Place) -> Turn
@@ -115,7 +111,7 @@ fn swap_turn(z: Terms, q: Process, links: &[u64], i: Cell, w: u64, n: Place) -> 
     let at = numbers::index_of(z, i);
     let is = look::wide(links, at);
     if is == w {
-        Turn::Turned(Change::Link(at, numbers::link_of(q, n)), Next::Written)
+        super::makes(Change::Link(at, numbers::link_of(q, n)), Next::Written)
     } else {
         super::goes(Op::Marking(i, Marking::TakeBack(n)))
     }
@@ -132,13 +128,13 @@ pub fn marking_turn(
     pool: &[Mark],
     i: Cell,
     k: Marking,
-) -> Turn
+) -> Option<Turn>
     requires { (sizes_fit z top ≡ true) × (place_fits z (place_in k) ≡ true) }
     ensures { result ≡ marking_turn z top q.0 l links.now directory.now pool.now i k }
 {
     match k {
-        Marking::Draw(stored, w, n) => draw_turn(z, top, i, stored, w, n),
-        Marking::Enter(stored, start, w, n) => enter_turn(q, i, stored, start, w, n),
+        Marking::Draw(stored, w, n) => Some(draw_turn(z, top, i, stored, w, n)),
+        Marking::Enter(stored, start, w, n) => Some(enter_turn(q, i, stored, start, w, n)),
         Marking::Tombstone(w, n) => {
             let after = n.0 + 1;
             let then = marking_next(l, w, Place(after));
@@ -150,12 +146,12 @@ pub fn marking_turn(
         }
         Marking::Force(w, n) => {
             let forced = (n.0 + 1) as u32;
-            marks(Change::Marks(forced), i, Marking::Swap(w, n))
+            Some(marks(Change::Marks(forced), i, Marking::Swap(w, n)))
         }
-        Marking::Swap(w, n) => swap_turn(z, q, links, i, w, n),
+        Marking::Swap(w, n) => Some(swap_turn(z, q, links, i, w, n)),
         Marking::TakeBack(n) => {
             let back = n.0 as u32;
-            Turn::Turned(Change::Marks(back), Next::Written)
+            Some(super::makes(Change::Marks(back), Next::Written))
         }
     }
 }
