@@ -1,5 +1,6 @@
 -- Each case of a beginning, as a law of its definition.
 -- Assumes nothing.
+use Rattle.std.specs.Prelude.{Ok}
 use mathlib.Core.Path.{◌≡◌}
 use mathlib.Core.Bool.{Bool, true, false, not}
 use Prim.Native.Nat.{ℕ, ◌<◌, ◌≤◌}
@@ -58,7 +59,7 @@ module _ (fits : Bool) (z : Terms) (top q : ℕ) (l : Lane) (i : Cell) (o : Op) 
             let j : not (cell_fits z i) ≡ true = rw (← in_grid) h in
             rw (fine, lt-ltb _ _ low, k, j) e
 
-        pub begun_on : not c ≡ false → r ≡ record { lane = with_op l 0 o; top = top; answer = Answer.Begun } → r ≡ begins
+        pub begun_on : not c ≡ false → r ≡ record { lane = with_op l 0 o; top = top; answer = Ok Answer.Begun } → r ≡ begins
         unfolding begun_of
         begun_on h e =
             let k : not (idle l.op) ≡ false = rw (← at) free in

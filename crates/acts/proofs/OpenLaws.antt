@@ -1,5 +1,6 @@
 -- Each case of an opening, as a law of its definition.
 -- Assumes nothing.
+use Rattle.std.specs.Prelude.{Ok, Err}
 use mathlib.Core.Path.{◌≡◌, sym, ◌∙◌}
 use mathlib.Core.Bool.{Bool, true, false, not}
 use mathlib.Core.List.{List}
@@ -12,7 +13,7 @@ use Rattle.numbers.specs.declared.Terms.{Terms}
 use Rattle.numbers.specs.Numbers.{directory_words, pool_words}
 use Rattle.refusals.specs.declared.Refusal.{Refusal}
 use Rattle.steps.specs.Memory.{Memory, memory}
-use Rattle.acts.specs.declared.Opening.{Opening}
+use Rattle.acts.specs.Calls.{Opening}
 use Rattle.acts.specs.declared.Opened.{Opened}
 use Rattle.acts.specs.Calls.{lengths_fit, opening_of, fresh, closed, open_of}
 
@@ -35,27 +36,27 @@ module _ (z : Terms) (readings links directory pool : List ℕ) where
       pool_decides k g h = simp (eq-eqb _ _ e, eq-eqb _ _ f, eq-eqb _ _ (g ∙ dd)) (rw h)
 
 module _ (z : Terms) (mem : Memory) (p : Bool) (e : p ≡ processes_fit z.p) where
-  pub no_processes : not p ≡ true → Opening.Refused Refusal.ProcessCount ≡ opening_of z mem
+  pub no_processes : not p ≡ true → Err Refusal.ProcessCount ≡ opening_of z mem
   unfolding opening_of
   no_processes h = rw (sym e ∙ not-true p h)
 
   module _ (h : not p ≡ false) (m : Bool) (f : m ≡ cells_fit z.m) where
-    pub no_cells : not m ≡ true → Opening.Refused Refusal.CellCount ≡ opening_of z mem
+    pub no_cells : not m ≡ true → Err Refusal.CellCount ≡ opening_of z mem
     unfolding opening_of
     no_cells k = rw (sym e ∙ not-false p h, sym f ∙ not-true m k)
 
     module _ (k : not m ≡ false) (b : Bool) (g : b ≡ lengths_fit z mem) where
-      pub lengths_right : b ≡ true → Opening.Open ≡ opening_of z mem
+      pub lengths_right : b ≡ true → Ok tt ≡ opening_of z mem
       unfolding opening_of
       lengths_right j = rw (sym e ∙ not-false p h, sym f ∙ not-false m k, sym g ∙ j)
 
-      pub lengths_wrong : b ≡ false → Opening.Refused Refusal.LentLength ≡ opening_of z mem
+      pub lengths_wrong : b ≡ false → Err Refusal.LentLength ≡ opening_of z mem
       unfolding opening_of
       lengths_wrong j = rw (sym e ∙ not-false p h, sym f ∙ not-false m k, sym g ∙ j)
 
 module _ (z : Terms) (mem : Memory) (is : Opening) (e : is ≡ opening_of z mem) (r : Opened) where
-  pub is_open : is ≡ Opening.Open → r ≡ record { state = fresh z; opening = Opening.Open } → r ≡ open_of z mem
+  pub is_open : is ≡ Ok tt → r ≡ record { state = fresh z; opening = Ok tt } → r ≡ open_of z mem
   is_open h f = rw (← e, h) f
 
-  pub is_refused : (x : Refusal) → is ≡ Opening.Refused x → r ≡ record { state = fresh closed; opening = Opening.Refused x } → r ≡ open_of z mem
+  pub is_refused : (x : Refusal) → is ≡ Err x → r ≡ record { state = fresh closed; opening = Err x } → r ≡ open_of z mem
   is_refused x h f = rw (← e, h) f

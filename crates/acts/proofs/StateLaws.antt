@@ -1,5 +1,6 @@
 -- From the lanes that begin and step look at, one by one, to the state: the loop, the lane in use, and the call's outcome.
 -- Assumes nothing.
+use Rattle.std.specs.Prelude.{Option, Ok, Err, is_ok}
 use mathlib.Core.Path.{◌≡◌, refl, sym, ap, ◌∙◌}
 use mathlib.Core.Bool.{Bool, true, false, not}
 use mathlib.Core.List.{List}
@@ -30,11 +31,11 @@ use Rattle.steps.specs.Memory.{Memory}
 use Rattle.acts.specs.declared.Ask.{Ask}
 use Rattle.acts.specs.declared.Answer.{Answer}
 use Rattle.acts.specs.declared.Acted.{Acted}
-use Rattle.acts.specs.declared.Verdict.{Verdict}
+use Rattle.acts.specs.Calls.{Verdict, Response}
 use Rattle.acts.specs.declared.Stepped.{Stepped}
 use Rattle.acts.specs.Calls.{lengths_fit, cell_of, op_of, refused_as, with_op, answer_of, begun_of, begin_of, verdict_of, turn_in, step_by, step_of}
 use Rattle.acts.specs.Calls.{Effect, effect, effect_of, act_of, outcome, stepped_as, outcome_as}
-use Rattle.acts.specs.Inner.{lane_at, changes, Judged, named_in, named, handed_turn}
+use Rattle.acts.specs.Inner.{lane_at, Judged, named_in, named, handed_turn}
 
 -- past the last lane in use, the state has been looked at
 pub loop_end : (t : State) (b : Bool) (end i : ℕ) (fits : Bool) → b ≡ sizes_fit t.terms t.top → end ≡ pick b t.terms.p 0 → i ≤ end → end ≤ i
@@ -59,13 +60,6 @@ named_of z steps (Op.Asked i c) h e = named_in_lem z c h (rest_fits_lem z steps 
 named_of z steps (Op.Store i v) h e = omega arith
 named_of z steps (Op.Write i c) h e = named_in_lem z c h (rest_fits_lem z steps (Op.Write i c) refl e)
 named_of z steps (Op.Marking i k) h e = omega arith
-
--- a step that is no refusal answers none
-moved_changes : (n : ℕ) (next : Next) → changes (answer_of n next) ≡ true
-moved_changes n (Next.Going o) = refl
-moved_changes n (Next.Read v b) = refl
-moved_changes n Next.Written = refl
-moved_changes n (Next.Asked b) = refl
 
 -- the lane at k, which is process q's where q is one of the grid's
 module _ (s : State) (q k : ℕ) (at : k ≡ lane_at q) (l : Lane) (is : l ≡ lane_of s k) where
@@ -97,7 +91,7 @@ module _ (s : State) (q k : ℕ) (at : k ≡ lane_at q) (l : Lane) (is : l ≡ l
       → b ≡ begun_of fits s.terms s.top q l i o → stepped_as s k b ≡ begin_of s q a
   begun_is fits a i o b e c d f = rw (f, e, c, d) (begun_by (cell_of a) (op_of a) (state_fits s) refl (ltb q s.terms.p) refl)
 
-  abbrev pub unchanged : Answer → Stepped
+  abbrev pub unchanged : Response → Stepped
   unchanged a = record { state = s; answer = a }
 
   -- a refusal leaves the lane and the top as they were
@@ -105,9 +99,9 @@ module _ (s : State) (q k : ℕ) (at : k ≡ lane_at q) (l : Lane) (is : l ≡ l
   refused_is b r f = rw f (ap (λ (x : List Lane). stepped x) (sym same_lanes))
     where
       stepped : List Lane → Stepped
-      stepped x = record { state = record { terms = s.terms; top = s.top; lanes = x }; answer = Answer.Refused r }
+      stepped x = record { state = record { terms = s.terms; top = s.top; lanes = x }; answer = Err r }
 
-  pub begun_kept : (fits : Bool) (i : Cell) (o : Op) (b : Acted) → b ≡ begun_of fits s.terms s.top q l i o → changes b.answer ≡ false
+  pub begun_kept : (fits : Bool) (i : Cell) (o : Op) (b : Acted) → b ≡ begun_of fits s.terms s.top q l i o → is_ok b.answer ≡ false
       → unchanged b.answer ≡ stepped_as s k b
   unfolding begun_of
   begun_kept fits i o b e h = by fits (ltb q s.terms.p) (idle l.op) (cell_fits s.terms i) e
@@ -116,7 +110,7 @@ module _ (s : State) (q k : ℕ) (at : k ≡ lane_at q) (l : Lane) (is : l ≡ l
       refuse = refused_as l s.top
 
       begun : Acted
-      begun = record { lane = with_op l 0 o; top = s.top; answer = Answer.Begun }
+      begun = record { lane = with_op l 0 o; top = s.top; answer = Ok Answer.Begun }
 
       by : (w x y z : Bool)
           → b ≡ pick (not w) (refuse Refusal.OutOfRange) (pick (not x) (refuse Refusal.NoSuchProcess)
@@ -126,10 +120,10 @@ module _ (s : State) (q k : ℕ) (at : k ≡ lane_at q) (l : Lane) (is : l ≡ l
       by true false y z f = refused_is b Refusal.NoSuchProcess f
       by true true false z f = refused_is b Refusal.UnderWay f
       by true true true false f = refused_is b Refusal.NoSuchCell f
-      by true true true true f = let g : true ≡ false = sym (ap (λ (x : Acted). changes x.answer) f) ∙ h in cc
+      by true true true true f = let g : true ≡ false = sym (ap (λ (x : Acted). is_ok x.answer) f) ∙ h in cc
 
   -- a step on the lane at k, whose turn is that of process q's lane where it is the same
-  module _ (mem : Memory) (t u : Turn) (same : state_fits s ≡ true → q < s.terms.p → t ≡ u) where
+  module _ (mem : Memory) (t u : Option Turn) (same : state_fits s ≡ true → q < s.terms.p → t ≡ u) where
     acts_by : (x : Bool) → state_fits s ≡ x → (y : Bool) → ltb q s.terms.p ≡ y → (z : Bool) → lengths_fit s.terms mem ≡ z
         → outcome_as s k (act_of (state_fits s) s.terms s.top q l mem t) ≡ step_by s q mem u
     unfolding verdict_of
@@ -144,13 +138,10 @@ module _ (s : State) (q k : ℕ) (at : k ≡ lane_at q) (l : Lane) (is : l ≡ l
         ap (outcome_as s k) f
         ∙ rw e (acts_by (state_fits s) refl (ltb q s.terms.p) refl (lengths_fit s.terms mem) refl)
 
-  pub moved_kept : (v : Verdict) (mem mem' : Memory) (b : Acted) → effect b mem' ≡ effect_of l s.top mem v → changes b.answer ≡ false
+  pub moved_kept : (v : Verdict) (mem mem' : Memory) (b : Acted) → effect b mem' ≡ effect_of l s.top mem v → is_ok b.answer ≡ false
       → unchanged b.answer ≡ stepped_as s k b
-  moved_kept (Verdict.Refused r) mem mem' b e h = refused_is b r (ap (λ (x : Effect). x.acted) e)
-  moved_kept (Verdict.Moved ch nx) mem mem' b e h =
-      let f : b.answer ≡ answer_of l.steps nx = ap (λ (x : Effect). x.acted.answer) e in
-      let g : true ≡ false = sym (moved_changes l.steps nx) ∙ sym (ap changes f) ∙ h in
-      cc
+  moved_kept (Err r) mem mem' b e h = refused_is b r (ap (λ (x : Effect). x.acted) e)
+  moved_kept (Ok t) mem mem' b e h = let g : true ≡ false = sym (ap (λ (x : Effect). is_ok x.acted.answer) e) ∙ h in cc
 
   -- the marks in force that the step reads, looked up before it
   module _ (j : ℕ) (other : Lane) (from : j ≡ lane_at (named l.op)) (sees : other ≡ lane_of s j) where
@@ -189,7 +180,7 @@ module _ (s : State) (q k : ℕ) (at : k ≡ lane_at q) (l : Lane) (is : l ≡ l
 
     pub step_kept : (fits : Bool) (mem mem' : Memory) (b : Acted) → fits ≡ state_fits s
         → effect b mem' ≡ act_of fits s.terms s.top q l mem (turn_of s.terms s.top q l (handed other.marks) mem)
-        → changes b.answer ≡ false → outcome (unchanged b.answer) mem' ≡ step_of s q mem
+        → is_ok b.answer ≡ false → outcome (unchanged b.answer) mem' ≡ step_of s q mem
     step_kept fits mem mem' b e f h =
         ap (λ (x : Stepped). outcome x mem')
         (moved_kept (verdict_of fits s.terms s.top q l mem (turn_of s.terms s.top q l (handed other.marks) mem)) mem mem' b f h)

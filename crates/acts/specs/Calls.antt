@@ -1,6 +1,6 @@
 -- Open, begin and step: the refusals of each in document 01's order, and all that each call determines.
 -- Assumes nothing.
-use Rattle.std.specs.Prelude.{ℕ, ◌+◌, Bool, false, not, ◌&&◌, List, [], ◌∷◌, leb, ltb, eqb, length, set, replicate}
+use Rattle.std.specs.Prelude.{ℕ, ◌+◌, Bool, false, not, ◌&&◌, List, [], ◌∷◌, Option, None, Some, Result, Ok, Err, leb, ltb, eqb, length, set, replicate}
 use Rattle.numbers.specs.Numbers.{most_processes, directory_words, pool_words}
 use Rattle.numbers.specs.Cells.{processes_fit, cells_fit, cell_fits}
 use Rattle.numbers.specs.declared.Cell.{Cell}
@@ -21,10 +21,18 @@ use Rattle.steps.specs.Changes.{lane_after, top_after, memory_after}
 use Rattle.acts.specs.declared.Ask.{Ask}
 use Rattle.acts.specs.declared.Answer.{Answer}
 use Rattle.acts.specs.declared.Stepped.{Stepped}
-use Rattle.acts.specs.declared.Opening.{Opening}
 use Rattle.acts.specs.declared.Opened.{Opened}
 use Rattle.acts.specs.declared.Acted.{Acted}
-use Rattle.acts.specs.declared.Verdict.{Verdict}
+
+-- Whether a grid was opened; what a step comes to; what a call answers. Each is refused or not.
+abbrev pub Opening : Type 0
+Opening = Result (Unit {0}) Refusal
+
+abbrev pub Verdict : Type 0
+Verdict = Result Turn Refusal
+
+abbrev pub Response : Type 0
+Response = Result Answer Refusal
 
 -- Lent memory: readings m, links m, directory 17p, pool 4m + 2p. Lengths are exact.
 abbrev pub lengths_fit : Terms → Memory → Bool
@@ -42,7 +50,7 @@ open_refusals z mem =
     ∷ []
 
 unfoldable pub opening_of : Terms → Memory → Opening
-opening_of z mem = orders Opening.Refused (open_refusals z mem) Opening.Open
+opening_of z mem = orders Err (open_refusals z mem) (Ok tt)
 
 -- Open sets every lane's counts and the pool's top to 0, with no operation under way.
 abbrev pub fresh : Terms → State
@@ -53,8 +61,8 @@ abbrev pub closed : Terms
 closed = record { p = 0; m = 0; first = 0; step = 0 }
 
 abbrev pub opened_as : Terms → Opening → Opened
-opened_as z Opening.Open = record { state = fresh z; opening = Opening.Open }
-opened_as z (Opening.Refused r) = record { state = fresh closed; opening = Opening.Refused r }
+opened_as z (Ok u) = record { state = fresh z; opening = Ok u }
+opened_as z (Err r) = record { state = fresh closed; opening = Err r }
 
 abbrev pub open_of : Terms → Memory → Opened
 open_of z mem = opened_as z (opening_of z mem)
@@ -73,7 +81,7 @@ begin_refusals fits z q l i =
     ∷ []
 
 abbrev pub refused_as : Lane → ℕ → Refusal → Acted
-refused_as l top r = record { lane = l; top = top; answer = Answer.Refused r }
+refused_as l top r = record { lane = l; top = top; answer = Err r }
 
 -- The operation goes on with so many steps, or there is none.
 abbrev pub with_op : Lane → ℕ → Op → Lane
@@ -82,7 +90,7 @@ with_op l steps o = record { marks = l.marks; drawn = l.drawn; steps = steps; op
 -- Beginning an operation on cell i is not a step and touches no memory: the lane then has the operation o.
 unfoldable pub begun_of : Bool → Terms → ℕ → ℕ → Lane → Cell → Op → Acted
 begun_of fits z top q l i o =
-    orders (refused_as l top) (begin_refusals fits z q l i) (record { lane = with_op l 0 o; top = top; answer = Answer.Begun })
+    orders (refused_as l top) (begin_refusals fits z q l i) (record { lane = with_op l 0 o; top = top; answer = Ok Answer.Begun })
 
 abbrev pub stepped_as : State → ℕ → Acted → Stepped
 stepped_as s q b = record { state = settled s q b.lane b.top; answer = b.answer }
@@ -120,25 +128,25 @@ advance (Next.Asked b) l = with_op l 0 Op.Idle
 abbrev pub numbers_fit : Terms → ℕ → Lane → Change → Next → Bool
 numbers_fit z top l change next = leb (top_after change top) (pool_words z.p z.m) && lane_fits z (advance next (lane_after change l))
 
-abbrev pub turn_fits : Terms → ℕ → Lane → Turn → Bool
-turn_fits z top l Turn.Outside = false
-turn_fits z top l (Turn.Turned change next) = numbers_fit z top l change next
+abbrev pub turn_fits : Terms → ℕ → Lane → Option Turn → Bool
+turn_fits z top l None = false
+turn_fits z top l (Some t) = numbers_fit z top l t.change t.next
 
 -- then 9 (word, draw or new number): a word lies outside its memory, or a number of the state would leave its range.
-abbrev pub turn_refusals : Terms → ℕ → Lane → Turn → List Rule
+abbrev pub turn_refusals : Terms → ℕ → Lane → Option Turn → List Rule
 turn_refusals z top l t = not (turn_fits z top l t) gives Refusal.OutOfRange ∷ []
 
--- A turn that fits moves. (One outside never does.)
-abbrev pub moved : Turn → Verdict
-moved Turn.Outside = Verdict.Refused Refusal.OutOfRange
-moved (Turn.Turned change next) = Verdict.Moved change next
+-- A turn that fits moves. (None, outside, never does.)
+abbrev pub moved : Option Turn → Verdict
+moved None = Err Refusal.OutOfRange
+moved (Some t) = Ok t
 
-abbrev pub decided : Terms → ℕ → Lane → Turn → Verdict
-decided z top l t = orders Verdict.Refused (turn_refusals z top l t) (moved t)
+abbrev pub decided : Terms → ℕ → Lane → Option Turn → Verdict
+decided z top l t = orders Err (turn_refusals z top l t) (moved t)
 
 -- What a step comes to whose turn is t.
-unfoldable pub verdict_of : Bool → Terms → ℕ → ℕ → Lane → Memory → Turn → Verdict
-verdict_of fits z top q l mem t = orders Verdict.Refused (step_refusals fits z mem q l) (decided z top l t)
+unfoldable pub verdict_of : Bool → Terms → ℕ → ℕ → Lane → Memory → Option Turn → Verdict
+verdict_of fits z top q l mem t = orders Err (step_refusals fits z mem q l) (decided z top l t)
 
 -- The answer says how many of its own steps a finished operation took.
 abbrev pub answer_of : ℕ → Next → Answer
@@ -156,13 +164,13 @@ abbrev pub effect : Acted → Memory → Effect
 effect b mem = record { acted = b; memory = mem }
 
 abbrev pub effect_of : Lane → ℕ → Memory → Verdict → Effect
-effect_of l top mem (Verdict.Refused r) = effect (refused_as l top r) mem
-effect_of l top mem (Verdict.Moved change next) =
+effect_of l top mem (Err r) = effect (refused_as l top r) mem
+effect_of l top mem (Ok t) =
     effect
-    (record { lane = advance next (lane_after change l); top = top_after change top; answer = answer_of l.steps next })
-    (memory_after change mem)
+    (record { lane = advance t.next (lane_after t.change l); top = top_after t.change top; answer = Ok (answer_of l.steps t.next) })
+    (memory_after t.change mem)
 
-abbrev pub act_of : Bool → Terms → ℕ → ℕ → Lane → Memory → Turn → Effect
+abbrev pub act_of : Bool → Terms → ℕ → ℕ → Lane → Memory → Option Turn → Effect
 act_of fits z top q l mem t = effect_of l top mem (verdict_of fits z top q l mem t)
 
 -- All that a step determines: the state, the answer and the lent memories.
@@ -177,11 +185,11 @@ abbrev pub outcome_as : State → ℕ → Effect → Outcome
 outcome_as s q e = outcome (stepped_as s q e.acted) e.memory
 
 -- A step of process q whose turn is t,
-abbrev pub step_by : State → ℕ → Memory → Turn → Outcome
+abbrev pub step_by : State → ℕ → Memory → Option Turn → Outcome
 step_by s q mem t = outcome_as s q (act_of (state_fits s) s.terms s.top q (lane_of s q) mem t)
 
 -- and the turn is what the step list says.
-abbrev pub turn_in : State → ℕ → Memory → Turn
+abbrev pub turn_in : State → ℕ → Memory → Option Turn
 turn_in s q mem = turn_of s.terms s.top q (lane_of s q) (marks_of s) mem
 
 abbrev pub step_of : State → ℕ → Memory → Outcome

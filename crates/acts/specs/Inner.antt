@@ -19,15 +19,6 @@ use Rattle.acts.specs.declared.Answer.{Answer}
 abbrev pub lane_at : ℕ → ℕ
 lane_at q = pick (ltb q most_processes) q 0
 
--- Only a refusal changes nothing.
-abbrev pub changes : Answer → Bool
-changes Answer.Begun = true
-changes Answer.Going = true
-changes (Answer.Read v b n) = true
-changes (Answer.Written n) = true
-changes (Answer.Asked b n) = true
-changes (Answer.Refused r) = false
-
 -- What the judge of a step is to know where the state fits.
 pub record Judged (fits : Bool) (z : Terms) (top q : ℕ) (l : Lane) (seen : ℕ) : Type 0 where
   pub sizes : fits ≡ true → sizes_fit z top ≡ true

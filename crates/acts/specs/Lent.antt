@@ -1,6 +1,6 @@
 -- What an accepted open says of its terms and of the lent memories: read off once.
 -- Assumes nothing.
-use Rattle.std.specs.Prelude.{ℕ, ◌≤◌, Bool, not, ◌&&◌, leb, eqb, length}
+use Rattle.std.specs.Prelude.{ℕ, ◌≤◌, Bool, not, ◌&&◌, leb, eqb, length, Ok, Err}
 use Rattle.std.proofs.Math.Path.{◌≡◌, refl}
 use Rattle.std.proofs.Math.Bool.{true, false}
 use Rattle.std.proofs.Common.{arith, leb-true, le-leb, eqb-true, eq-eqb}
@@ -12,7 +12,7 @@ use Rattle.numbers.specs.declared.Terms.{Terms}
 use Rattle.refusals.specs.declared.Refusal.TheVariants as Refusal
 use Rattle.lanes.specs.Ranges.{sizes_fit}
 use Rattle.steps.specs.Memory.{Memory}
-use Rattle.acts.specs.declared.Opening.{Opening}
+use Rattle.acts.specs.Calls.{Opening}
 use Rattle.acts.specs.Calls.{lengths_fit, opening_of, opened_as, open_of}
 
 pub record Bounds (z : Terms) : Type 0 where
@@ -68,20 +68,23 @@ module _ (z : Terms) (mem : Memory) where
     pub bounds : Bounds z
     pub lengths : Lengths z mem
 
-  pub opening_open : (open_of z mem).opening ≡ Opening.Open → opening_of z mem ≡ Opening.Open
+  pub opening_open : (open_of z mem).opening ≡ Ok tt → opening_of z mem ≡ Ok tt
   opening_open e = by (opening_of z mem) e
     where
-      by : (o : Opening) → (opened_as z o).opening ≡ Opening.Open → o ≡ Opening.Open
-      by Opening.Open h = refl
-      by (Opening.Refused r) h = h
+      by : (o : Opening) → (opened_as z o).opening ≡ Ok tt → o ≡ Ok tt
+      by (Ok u) h = refl
+      by (Err r) h = h
 
-  pub admitted : opening_of z mem ≡ Opening.Open → Admitted
+  abbrev accepted : Opening
+  accepted = Ok tt
+
+  pub admitted : opening_of z mem ≡ Ok tt → Admitted
   unfolding opening_of
   admitted = by (processes_fit z.p) refl (cells_fit z.m) refl (lengths_fit z mem) refl
     where
       by : (x : Bool) → processes_fit z.p ≡ x → (y : Bool) → cells_fit z.m ≡ y → (w : Bool) → lengths_fit z mem ≡ w
-          → pick (not x) (Opening.Refused Refusal.ProcessCount) (pick (not y) (Opening.Refused Refusal.CellCount)
-          (pick (not w) (Opening.Refused Refusal.LentLength) Opening.Open)) ≡ Opening.Open → Admitted
+          → pick (not x) (Err Refusal.ProcessCount) (pick (not y) (Err Refusal.CellCount)
+          (pick (not w) (Err Refusal.LentLength) accepted)) ≡ accepted → Admitted
       by false a y c w d h = absurd (let k : ◌≡◌ {A = ℕ} 0 1 = cc in omega arith)
       by true a false c w d h = absurd (let k : ◌≡◌ {A = ℕ} 0 1 = cc in omega arith)
       by true a true c false d h = absurd (let k : ◌≡◌ {A = ℕ} 0 1 = cc in omega arith)

@@ -1,12 +1,12 @@
 -- A machine, and any calls on it one after another: "each given the last returned state and the one memory the grid was opened in".
 -- Assumes nothing.
-use Rattle.std.specs.Prelude.{ℕ, ◌≡◌, false, List, [], ◌∷◌}
+use Rattle.std.specs.Prelude.{ℕ, ◌≡◌, false, List, [], ◌∷◌, Ok}
 use Rattle.numbers.specs.declared.Terms.{Terms}
 use Rattle.lanes.specs.declared.State.{State}
 use Rattle.steps.specs.Memory.{Memory}
 use Rattle.acts.specs.declared.Ask.{Ask}
 use Rattle.acts.specs.declared.Answer.{Answer}
-use Rattle.acts.specs.declared.Opening.{Opening}
+use Rattle.acts.specs.Calls.{Opening, Response}
 use Rattle.acts.specs.Calls.{lengths_fit, open_of, begin_of, step_of}
 
 -- What an opening gives, what a beginning leaves and answers, and what a step does. S are the states.
@@ -16,11 +16,11 @@ pub record Started (S : Type 0) : Type 0 where
 
 pub record Reply (S : Type 0) : Type 0 where
   pub state : S
-  pub answer : Answer
+  pub answer : Response
 
 pub record Result (S : Type 0) : Type 0 where
   pub state : S
-  pub answer : Answer
+  pub answer : Response
   pub memory : Memory
 
 -- How a machine opens, begins an operation that is asked of it, and takes a step. A is what may be asked.
@@ -51,7 +51,7 @@ abbrev pub world : {S : Type 0} → S → Memory → World S
 world s mem = record { state = s; memory = mem }
 
 -- What a call answers,
-abbrev pub answer_to : {S A : Type 0} {z : Terms} → Machine S A → World S → Call A z → Answer
+abbrev pub answer_to : {S A : Type 0} {z : Terms} → Machine S A → World S → Call A z → Response
 answer_to M w (begin q a) = (M.begin w.state q a).answer
 answer_to M w (step q) = (M.step w.state q w.memory).answer
 answer_to M w (misfit q mem h) = (M.step w.state q mem).answer
@@ -69,7 +69,7 @@ after M w (c ∷ cs) = after M (world_after M w c) cs
 
 -- A grid opened in memory of any content; a caller sees that it was not refused.
 abbrev pub Accepted : {S A : Type 0} → Machine S A → Terms → Memory → Type 0
-Accepted M z mem = (M.opens z mem).opening ≡ Opening.Open
+Accepted M z mem = (M.opens z mem).opening ≡ Ok tt
 
 abbrev pub opened_world : {S A : Type 0} → Machine S A → Terms → Memory → World S
 opened_world M z mem = world (M.opens z mem).state mem

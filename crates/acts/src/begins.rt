@@ -3,7 +3,7 @@ ghost use Rattle.std.specs.Prelude.{◌≡◌, true, ◌<◌, ◌≤◌};
 ghost use Rattle.numbers.specs.Numbers.{most_processes};
 ghost use Rattle.logic.specs.Pick.{pick};
 ghost use Rattle.acts.specs.Calls.{cell_of, op_of, begun_of};
-ghost use Rattle.acts.specs.Inner.{lane_at, changes};
+ghost use Rattle.acts.specs.Inner.{lane_at};
 
 use super::{Acted, Answer, Ask};
 use lanes::{Check, Lane, Op};
@@ -47,26 +47,12 @@ pub fn op_of(a: Ask) -> Op
 }
 
 pub fn refused(l: Lane, top: u32, r: Refusal) -> Acted
-    ensures { result ≡ record { lane = l; top = top; answer = Answer.Refused r } }
+    ensures { result ≡ record { lane = l; top = top; answer = Err r } }
 {
     Acted {
         lane: l,
         top: top,
-        answer: Answer::Refused(r),
-    }
-}
-
-// Only a refusal changes nothing.
-pub fn changes(a: Answer) -> bool
-    ensures { result ≡ changes a }
-{
-    match a {
-        Answer::Begun => true,
-        Answer::Going => true,
-        Answer::Read(_, _, _) => true,
-        Answer::Written(_) => true,
-        Answer::Asked(_, _) => true,
-        Answer::Refused(_) => false,
+        answer: Err(r),
     }
 }
 
@@ -96,6 +82,6 @@ pub fn begun(fits: bool, z: Terms, top: u32, q: Process, l: Lane, i: Cell, o: Op
     Acted {
         lane: fresh,
         top: top,
-        answer: Answer::Begun,
+        answer: Ok(Answer::Begun),
     }
 }

@@ -7,7 +7,6 @@ pub mod opens;
 use lanes::{Lane, State};
 use numbers::Cell;
 use refusals::Refusal;
-use steps::{Change, Next};
 
 // What an operation is to be.
 #[derive(Clone, Copy)]
@@ -17,7 +16,7 @@ pub enum Ask {
     Asked(Cell),
 }
 
-// What a call answers. A finished operation says how many of its own steps it took.
+// What a call answers that is not refused. A finished operation says how many of its own steps it took.
 #[derive(Clone, Copy)]
 pub enum Answer {
     Begun,
@@ -26,28 +25,21 @@ pub enum Answer {
     Read(u32, bool, u8),
     Written(u8),
     Asked(bool, u8),
-    Refused(Refusal),
 }
 
 // A state, and what was answered.
 #[derive(Clone, Copy)]
 pub struct Stepped {
     pub state: State,
-    pub answer: Answer,
+    pub answer: Result<Answer, Refusal>,
 }
 
-// Whether a grid was opened.
-#[derive(Clone, Copy)]
-pub enum Opening {
-    Open,
-    Refused(Refusal),
-}
-
-// The grid's state; where it was refused, the closed state, which every call refuses.
+// Whether a grid was opened, and its state; where it was refused, the closed state, which every call refuses. No `Result` of the two:
+// the theorems `refused_open_is_closed`, `closed_begin` and `closed_step` speak of the state that a refused open gives.
 #[derive(Clone, Copy)]
 pub struct Opened {
     pub state: State,
-    pub opening: Opening,
+    pub opening: Result<(), Refusal>,
 }
 
 // What a call makes of a lane and of the pool's top, and what it answers.
@@ -55,12 +47,5 @@ pub struct Opened {
 pub struct Acted {
     pub lane: Lane,
     pub top: u32,
-    pub answer: Answer,
-}
-
-// What a step comes to.
-#[derive(Clone, Copy)]
-pub enum Verdict {
-    Refused(Refusal),
-    Moved(Change, Next),
+    pub answer: Result<Answer, Refusal>,
 }

@@ -3,7 +3,7 @@ ghost use Rattle.std.specs.Prelude.{◌≡◌};
 ghost use Rattle.steps.specs.Memory.{memory};
 ghost use Rattle.acts.specs.Calls.{lengths_fit, opening_of, fresh};
 
-use super::{Opened, Opening};
+use super::Opened;
 use lanes::{Lane, Op, State};
 use numbers::{LANES, Mark, Terms};
 use refusals::Refusal;
@@ -36,24 +36,23 @@ pub fn opening_of(
     links: &[u64],
     directory: &[u32],
     pool: &[Mark],
-) -> Opening
+) -> Result<(), Refusal>
     ensures { result ≡ opening_of z (memory readings.now links.now directory.now pool.now) }
 {
     if !numbers::processes_fit(z.p) {
-        return Opening::Refused(Refusal::ProcessCount);
+        return Err(Refusal::ProcessCount);
     }
     if !numbers::cells_fit(z.m) {
-        return Opening::Refused(Refusal::CellCount);
+        return Err(Refusal::CellCount);
     }
-    if lengths_fit(z, readings, links, directory, pool) {
-        Opening::Open
-    } else {
-        Opening::Refused(Refusal::LentLength)
+    if !lengths_fit(z, readings, links, directory, pool) {
+        return Err(Refusal::LentLength);
     }
+    Ok(())
 }
 
 // The state that a grid of these terms starts from.
-pub fn opened(z: Terms, is: Opening) -> Opened
+pub fn opened(z: Terms, is: Result<(), Refusal>) -> Opened
     ensures { result ≡ record { state = fresh z; opening = is } }
 {
     let l = Lane {

@@ -1,5 +1,6 @@
 -- Each case of an entry, and the loop over the entries, as laws of their definitions.
 -- Assumes nothing.
+use Rattle.std.specs.Prelude.{Option, is_ok}
 use Prim.Native.Nat.{ℕ, ◌+◌, ◌<◌, ◌≤◌, min}
 use mathlib.Core.Path.{◌≡◌, refl, sym, ap, ◌∙◌}
 use mathlib.Core.Bool.{Bool, true, false}
@@ -27,7 +28,7 @@ use Rattle.acts.specs.declared.Acted.{Acted}
 use Rattle.acts.specs.declared.Stepped.{Stepped}
 use Rattle.acts.specs.declared.Ask.TheVariants as Ask
 use Rattle.acts.specs.Calls.{cell_of, op_of, Outcome, outcome, Effect, effect, stepped_as, begun_of, begin_of, act_of, verdict_of, step_of}
-use Rattle.acts.specs.Inner.{lane_at, changes, named}
+use Rattle.acts.specs.Inner.{lane_at, named}
 use Rattle.acts.proofs.StateLaws.{begun_is, begun_kept, step_is, moved_kept}
 use Rattle.batch.specs.Batch.{beginning, ask_of, entered, code_of, answer_of, Batch, batch, entering, onward, after, answer_at}
 use Rattle.batch.specs.Batch.{Told, entries, batch_of, entry_of}
@@ -71,7 +72,7 @@ asked_cell kind i v = by (eqb kind 1) (eqb kind 2)
 -- an entry on the lane at k is the entry on the state
 module _ (s : State) (q k : ℕ) (at : k ≡ lane_at q) (j : ℕ) (from : j ≡ lane_at (named (lane_of s k).op)) (fits : Bool) (e : fits ≡ state_fits s)
     (mem mem' : Memory) (kind : ℕ) (i : Cell) (v : ℕ) (b : Acted) where
-  abbrev turn : Turn
+  abbrev turn : Option Turn
   turn = turn_of s.terms s.top q (lane_of s k) (handed (lane_of s j).marks) mem
 
   abbrev Entry : Bool → Type 0
@@ -92,7 +93,7 @@ module _ (s : State) (q k : ℕ) (at : k ≡ lane_at q) (j : ℕ) (from : j ≡ 
   entry_is f = out_by (beginning kind) f
 
   -- an entry that is refused leaves the state as it is
-  kept_by : (w : Bool) → Entry w → changes b.answer ≡ false → s ≡ (stepped_as s k b).state
+  kept_by : (w : Bool) → Entry w → is_ok b.answer ≡ false → s ≡ (stepped_as s k b).state
   kept_by true f h =
       ap (λ (x : Stepped). x.state)
       (begun_kept s q k at (lane_of s k) refl fits i (op_of (ask_of kind i v)) b (ap (λ (x : Effect). x.acted) f) h)
@@ -100,7 +101,7 @@ module _ (s : State) (q k : ℕ) (at : k ≡ lane_at q) (j : ℕ) (from : j ≡ 
       ap (λ (x : Stepped). x.state)
       (moved_kept s q k at (lane_of s k) refl (verdict_of fits s.terms s.top q (lane_of s k) mem turn) mem mem' b f h)
 
-  entry_kept : Entry (beginning kind) → (r : Bool) → r ≡ changes b.answer → r ≡ false → s ≡ (stepped_as s k b).state
+  entry_kept : Entry (beginning kind) → (r : Bool) → r ≡ is_ok b.answer → r ≡ false → s ≡ (stepped_as s k b).state
   entry_kept f r g h = kept_by (beginning kind) f (sym g ∙ h)
 
 -- an entry keeps a state in its ranges there
@@ -248,7 +249,7 @@ module _ (kinds processes cells values answers₀ readings₀ links₀ directory
         given = ap (λ (x : Outcome). x.stepped.answer) out ∙ ap (λ (x : Batch). (entering kinds processes cells values x i).stepped.answer) G.done
 
     -- a refused entry: the state stays
-    pub going_kept : (answers' readings' links' directory' pool' : List ℕ) (k j code : ℕ) (b : Acted) (r : Bool) → r ≡ changes b.answer → r ≡ false → i < n
+    pub going_kept : (answers' readings' links' directory' pool' : List ℕ) (k j code : ℕ) (b : Acted) (r : Bool) → r ≡ is_ok b.answer → r ≡ false → i < n
         → k ≡ lane_at (get_or processes i 0) → j ≡ lane_at (named (lane_of t k).op)
         → Does s.terms k j b readings' links' directory' pool'
         → (code ≡ code_of b.answer) × (answer_of code ≡ b.answer) → answers' ≡ set answers i code → length readings' ≡ length readings

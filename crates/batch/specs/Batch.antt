@@ -1,6 +1,6 @@
 -- A list of begins and steps on one grid: the fold of the definitions of begin and step.
 -- Assumes nothing.
-use Rattle.std.specs.Prelude.{ℕ, zero, suc, ◌+◌, ◌*◌, ◌/◌, ◌%◌, ◌<◌, min, ◌≡◌, Bool, true, false, ◌&&◌, List, leb, eqb, length, get_or, set}
+use Rattle.std.specs.Prelude.{ℕ, zero, suc, ◌+◌, ◌*◌, ◌/◌, ◌%◌, ◌<◌, min, ◌≡◌, Bool, true, false, ◌&&◌, List, leb, eqb, length, get_or, set, Ok, Err}
 use Rattle.numbers.specs.declared.Cell.{Cell}
 use Rattle.refusals.specs.Numbers.{number_of, refusal_of}
 use Rattle.logic.specs.Pick.{pick}
@@ -12,7 +12,7 @@ use Rattle.steps.specs.Steps.{turn_of}
 use Rattle.steps.specs.Memory.{Memory}
 use Rattle.acts.specs.declared.Ask.{Ask}
 use Rattle.acts.specs.declared.Answer.{Answer}
-use Rattle.acts.specs.Calls.{op_of, begin_of, begun_of, Effect, effect, act_of, Outcome, outcome, step_of}
+use Rattle.acts.specs.Calls.{op_of, begin_of, begun_of, Effect, effect, act_of, Outcome, outcome, step_of, Response}
 
 -- An entry of kind 1 begins a read, 2 a write, 3 an asked; one of any other kind is a step.
 abbrev pub beginning : ℕ → Bool
@@ -36,25 +36,25 @@ bit false = 0
 abbrev pub count_of : Bool → ℕ → ℕ
 count_of b n = n + 256 * bit b
 
-abbrev pub code_of : Answer → ℕ
-code_of Answer.Begun = code_with 0 0 0
-code_of Answer.Going = code_with 1 0 0
-code_of (Answer.Read v b n) = code_with 2 (count_of b n) v
-code_of (Answer.Written n) = code_with 3 n 0
-code_of (Answer.Asked b n) = code_with 4 n (bit b)
-code_of (Answer.Refused r) = code_with 5 (number_of r) 0
+abbrev pub code_of : Response → ℕ
+code_of (Ok Answer.Begun) = code_with 0 0 0
+code_of (Ok Answer.Going) = code_with 1 0 0
+code_of (Ok (Answer.Read v b n)) = code_with 2 (count_of b n) v
+code_of (Ok (Answer.Written n)) = code_with 3 n 0
+code_of (Ok (Answer.Asked b n)) = code_with 4 n (bit b)
+code_of (Err r) = code_with 5 (number_of r) 0
 
 -- And back: the answer that a word says.
-abbrev pub answer_as : ℕ → ℕ → ℕ → ℕ → Answer
+abbrev pub answer_as : ℕ → ℕ → ℕ → ℕ → Response
 answer_as kind count flag value =
-    pick (eqb kind 0) Answer.Begun
-    (pick (eqb kind 1) Answer.Going
-    (pick (eqb kind 2) (Answer.Read value (eqb flag 1) count)
-    (pick (eqb kind 3) (Answer.Written count)
-    (pick (eqb kind 4) (Answer.Asked (eqb value 1) count)
-    (Answer.Refused (refusal_of count))))))
+    pick (eqb kind 0) (Ok Answer.Begun)
+    (pick (eqb kind 1) (Ok Answer.Going)
+    (pick (eqb kind 2) (Ok (Answer.Read value (eqb flag 1) count))
+    (pick (eqb kind 3) (Ok (Answer.Written count))
+    (pick (eqb kind 4) (Ok (Answer.Asked (eqb value 1) count))
+    (Err (refusal_of count))))))
 
-unfoldable pub answer_of : ℕ → Answer
+unfoldable pub answer_of : ℕ → Response
 answer_of w = answer_as (w % 256) (w / 256 % 256) (w / 65536 % 256) (w / 4294967296)
 
 -- What the entries leave: the state, the memories and the words of the answers.
@@ -82,7 +82,7 @@ module _ (kinds processes cells values : List ℕ) where
   after b (suc n) = onward (after b n) n
 
   -- Each of the first n answers comes back from its word.
-  abbrev pub answer_at : Batch → ℕ → Answer
+  abbrev pub answer_at : Batch → ℕ → Response
   answer_at b k = (entering (after b k) k).stepped.answer
 
   abbrev pub Told : Batch → ℕ → List ℕ → Type 0

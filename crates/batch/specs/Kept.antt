@@ -1,6 +1,6 @@
 -- Every call keeps a state in its ranges there, and a state out of them as it is.
 -- Assumes nothing.
-use Rattle.std.specs.Prelude.{ℕ, ◌≡◌, refl, Bool, true, false, not, leb, ltb}
+use Rattle.std.specs.Prelude.{ℕ, ◌≡◌, refl, Bool, true, false, not, leb, ltb, Option, None, Some, Ok, Err}
 use Rattle.std.proofs.Math.Path.{sym}
 use Rattle.std.proofs.Common.{ap, ◌∙◌, arith, le-leb, ltb-true}
 use Rattle.numbers.specs.Numbers.{pool_words, most_marks, most_segments}
@@ -21,7 +21,7 @@ use Rattle.steps.specs.Changes.{lane_after, top_after}
 use Rattle.acts.specs.declared.Ask.{Ask}
 use Rattle.acts.specs.declared.Acted.{Acted}
 use Rattle.acts.specs.declared.Answer.TheVariants as Answer
-use Rattle.acts.specs.declared.Verdict.{Verdict}
+use Rattle.acts.specs.Calls.{Verdict}
 use Rattle.acts.specs.Settled.{put_back, settled_fits}
 use Rattle.acts.specs.Calls.{lengths_fit, cell_of, op_of, with_op, refused_as, settled, begun_of, begin_of, advance, numbers_fit, decided, verdict_of}
 use Rattle.acts.specs.Calls.{effect_of, outcome_as, step_by, turn_in, step_of}
@@ -51,7 +51,7 @@ module _ (s : State) (q : ℕ) (a : Ask) where
       (pick (not x) (refuse Refusal.NoSuchProcess)
       (pick (not y) (refuse Refusal.UnderWay)
       (pick (not z) (refuse Refusal.NoSuchCell)
-      (record { lane = begun; top = s.top; answer = Answer.Begun }))))
+      (record { lane = begun; top = s.top; answer = Ok Answer.Begun }))))
 
   cases : (w x y z : Bool)
       → (w ≡ true → x ≡ true → z ≡ true → state_fits (settled s q begun s.top) ≡ state_fits s)
@@ -74,35 +74,33 @@ module _ (s : State) (q : ℕ) (a : Ask) where
       cases (state_fits s) (ltb q s.terms.p) (idle (lane_of s q).op) (cell_fits s.terms (cell_of a))
       (λ e f h. settled_fits s q _ s.top e (fresh e f h) (top_fits s e) ∙ sym e)
 
--- a verdict that moves, and what it moves to
-moves_within : (z : Terms) (top : ℕ) (l : Lane) (t : Turn) (ch : Change) (nx : Next) → decided z top l t ≡ Verdict.Moved ch nx
-    → numbers_fit z top l ch nx ≡ true
-moves_within z top l Turn.Outside ch nx e = let y : ◌≡◌ {A = ℕ} 0 1 = cc in absurd (omega arith)
-moves_within z top l (Turn.Turned c n) ch nx e = by (numbers_fit z top l c n) refl
+-- a turn that is carried out is within the ranges
+moves_within : (z : Terms) (top : ℕ) (l : Lane) (t : Option Turn) (u : Turn) → decided z top l t ≡ Ok u → numbers_fit z top l u.change u.next ≡ true
+moves_within z top l None u e = let y : ◌≡◌ {A = ℕ} 0 1 = cc in absurd (omega arith)
+moves_within z top l (Some t) u e = by (numbers_fit z top l t.change t.next) refl
   where
-    by : (b : Bool) → numbers_fit z top l c n ≡ b → numbers_fit z top l ch nx ≡ true
+    by : (b : Bool) → numbers_fit z top l t.change t.next ≡ b → numbers_fit z top l u.change u.next ≡ true
     by true h =
-        let u : Verdict.Moved c n ≡ Verdict.Moved ch nx = sym (rw h refl) ∙ e in
-        let x : c ≡ ch = cc in
-        let y : n ≡ nx = cc in
-        rw (← x, ← y) h
-    by false h = let u : Verdict.Refused Refusal.OutOfRange ≡ Verdict.Moved ch nx = sym (rw h refl) ∙ e in
-        let v : ◌≡◌ {A = ℕ} 0 1 = cc in absurd (omega arith)
+        let v : Ok t ≡ Ok u = sym (rw h refl) ∙ e in
+        let x : t ≡ u = cc in
+        rw (← x) h
+    by false h = let v : Err Refusal.OutOfRange ≡ Ok u = sym (rw h refl) ∙ e in
+        let y : ◌≡◌ {A = ℕ} 0 1 = cc in absurd (omega arith)
 
 -- only a state in its ranges, and a turn that was decided so, moves
-moved_only : (fits : Bool) (z : Terms) (top q : ℕ) (l : Lane) (mem : Memory) (t : Turn) (ch : Change) (nx : Next)
-    → verdict_of fits z top q l mem t ≡ Verdict.Moved ch nx → (fits ≡ true) × (decided z top l t ≡ Verdict.Moved ch nx)
+moved_only : (fits : Bool) (z : Terms) (top q : ℕ) (l : Lane) (mem : Memory) (t : Option Turn) (u : Turn)
+    → verdict_of fits z top q l mem t ≡ Ok u → (fits ≡ true) × (decided z top l t ≡ Ok u)
 unfolding verdict_of
-moved_only fits z top q l mem t ch nx = by fits (lengths_fit z mem) (ltb q z.p) (idle l.op)
+moved_only fits z top q l mem t u = by fits (lengths_fit z mem) (ltb q z.p) (idle l.op)
   where
-    none : {A : Type 0} (r : Refusal) → Verdict.Refused r ≡ Verdict.Moved ch nx → A
+    none : {A : Type 0} (r : Refusal) → Err r ≡ Ok u → A
     none r e = let y : ◌≡◌ {A = ℕ} 0 1 = cc in absurd (omega arith)
 
     by : (w x y i : Bool)
-        → pick (not w) (Verdict.Refused Refusal.OutOfRange) (pick (not x) (Verdict.Refused Refusal.OtherLengths)
-        (pick (not y) (Verdict.Refused Refusal.NoSuchProcess) (pick i (Verdict.Refused Refusal.NothingUnderWay) (decided z top l t))))
-        ≡ Verdict.Moved ch nx
-        → (w ≡ true) × (decided z top l t ≡ Verdict.Moved ch nx)
+        → pick (not w) (Err Refusal.OutOfRange) (pick (not x) (Err Refusal.OtherLengths)
+        (pick (not y) (Err Refusal.NoSuchProcess) (pick i (Err Refusal.NothingUnderWay) (decided z top l t))))
+        ≡ Ok u
+        → (w ≡ true) × (decided z top l t ≡ Ok u)
     by false x y i e = none Refusal.OutOfRange e
     by true false y i e = none Refusal.OtherLengths e
     by true true false i e = none Refusal.NoSuchProcess e
@@ -110,18 +108,18 @@ moved_only fits z top q l mem t ch nx = by fits (lengths_fit z mem) (ltb q z.p) 
     by true true true false e = (refl, e)
 
 -- a step on a lane, whatever its turn: refused, and the state is as it was; or moved within the ranges
-pub turned_keeps : (s : State) (q : ℕ) (mem : Memory) (t : Turn) → state_fits (step_by s q mem t).stepped.state ≡ state_fits s
+pub turned_keeps : (s : State) (q : ℕ) (mem : Memory) (t : Option Turn) → state_fits (step_by s q mem t).stepped.state ≡ state_fits s
 turned_keeps s q mem t = by (verdict_of (state_fits s) s.terms s.top q (lane_of s q) mem t) refl
   where
     by : (v : Verdict) → verdict_of (state_fits s) s.terms s.top q (lane_of s q) mem t ≡ v
         → state_fits (outcome_as s q (effect_of (lane_of s q) s.top mem v)).stepped.state ≡ state_fits s
-    by (Verdict.Refused r) e = ap state_fits (put_back s q)
-    by (Verdict.Moved ch nx) e =
-        let k = moved_only (state_fits s) s.terms s.top q (lane_of s q) mem t ch nx e in
-        let h = moves_within s.terms s.top (lane_of s q) t ch nx k.1 in
-        let l = advance nx (lane_after ch (lane_of s q)) in
-        let low = leb (top_after ch s.top) (pool_words s.terms.p s.terms.m) in
-        settled_fits s q l (top_after ch s.top) k.0 (and_right low (lane_fits s.terms l) h) (and_left low (lane_fits s.terms l) h) ∙ sym k.0
+    by (Err r) e = ap state_fits (put_back s q)
+    by (Ok u) e =
+        let k = moved_only (state_fits s) s.terms s.top q (lane_of s q) mem t u e in
+        let h = moves_within s.terms s.top (lane_of s q) t u k.1 in
+        let l = advance u.next (lane_after u.change (lane_of s q)) in
+        let low = leb (top_after u.change s.top) (pool_words s.terms.p s.terms.m) in
+        settled_fits s q l (top_after u.change s.top) k.0 (and_right low (lane_fits s.terms l) h) (and_left low (lane_fits s.terms l) h) ∙ sym k.0
 
 pub step_keeps : (s : State) (q : ℕ) (mem : Memory) → state_fits (step_of s q mem).stepped.state ≡ state_fits s
 step_keeps s q mem = turned_keeps s q mem (turn_in s q mem)

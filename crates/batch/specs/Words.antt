@@ -1,21 +1,22 @@
 -- An answer comes back from its word.
 -- Assumes nothing.
-use Rattle.std.specs.Prelude.{ℕ, ◌+◌, ◌*◌, ◌/◌, ◌%◌, ◌<◌, ◌≡◌, refl, Bool, true, false, eqb}
+use Rattle.std.specs.Prelude.{ℕ, ◌+◌, ◌*◌, ◌/◌, ◌%◌, ◌<◌, ◌≡◌, refl, Bool, true, false, eqb, Ok, Err}
 use Rattle.std.proofs.Common.{ap, ◌∙◌, arith}
 use Rattle.refusals.specs.Numbers.{number_of}
 use Rattle.refusals.specs.Laws.{refusal_back, number_below}
 use Rattle.refusals.specs.declared.Refusal.{Refusal}
 use Rattle.acts.specs.declared.Answer.{Answer}
 use Rattle.batch.specs.Batch.{code_with, bit, code_of, answer_as, answer_of}
+use Rattle.acts.specs.Calls.{Response}
 
 -- An answer's steps; 0 where it has none.
-abbrev pub steps_of : Answer → ℕ
-steps_of Answer.Begun = 0
-steps_of Answer.Going = 0
-steps_of (Answer.Read v b n) = n
-steps_of (Answer.Written n) = n
-steps_of (Answer.Asked b n) = n
-steps_of (Answer.Refused r) = 0
+abbrev pub steps_of : Response → ℕ
+steps_of (Ok Answer.Begun) = 0
+steps_of (Ok Answer.Going) = 0
+steps_of (Ok (Answer.Read v b n)) = n
+steps_of (Ok (Answer.Written n)) = n
+steps_of (Ok (Answer.Asked b n)) = n
+steps_of (Err r) = 0
 
 pub number_few : (r : Refusal) → number_of r < 256
 number_few r = omega (arith, number_below r)
@@ -48,10 +49,10 @@ bit_few true = omega arith
 bit_few false = omega arith
 
 -- Steps that fit a byte come back, and so does all the rest.
-pub answer_back : (a : Answer) → steps_of a < 256 → answer_of (code_of a) ≡ a
-answer_back Answer.Begun h = plain_back 0 0 0 (omega arith) (omega arith)
-answer_back Answer.Going h = plain_back 1 0 0 (omega arith) (omega arith)
-answer_back (Answer.Read v b n) h = parts_back 2 n (bit b) v (omega arith) h (bit_few b) ∙ rw (bit_back b)
-answer_back (Answer.Written n) h = plain_back 3 n 0 (omega arith) h
-answer_back (Answer.Asked b n) h = plain_back 4 n (bit b) (omega arith) h ∙ rw (bit_back b)
-answer_back (Answer.Refused r) h = plain_back 5 (number_of r) 0 (omega arith) (number_few r) ∙ rw (refusal_back r)
+pub answer_back : (a : Response) → steps_of a < 256 → answer_of (code_of a) ≡ a
+answer_back (Ok Answer.Begun) h = plain_back 0 0 0 (omega arith) (omega arith)
+answer_back (Ok Answer.Going) h = plain_back 1 0 0 (omega arith) (omega arith)
+answer_back (Ok (Answer.Read v b n)) h = parts_back 2 n (bit b) v (omega arith) h (bit_few b) ∙ rw (bit_back b)
+answer_back (Ok (Answer.Written n)) h = plain_back 3 n 0 (omega arith) h
+answer_back (Ok (Answer.Asked b n)) h = plain_back 4 n (bit b) (omega arith) h ∙ rw (bit_back b)
+answer_back (Err r) h = plain_back 5 (number_of r) 0 (omega arith) (number_few r) ∙ rw (refusal_back r)

@@ -1,7 +1,7 @@
 // Many begins and steps in one call: the state stays in one local, and is looked at once.
 #![tactic(auto)]
 
-ghost use Rattle.std.specs.Prelude.{◌≡◌, ◌<◌};
+ghost use Rattle.std.specs.Prelude.{◌≡◌, ◌<◌, Ok};
 ghost use Rattle.lanes.specs.Ranges.{state_fits};
 ghost use Rattle.steps.specs.Memory.{memory};
 ghost use Rattle.acts.specs.Calls.{op_of, effect};
@@ -11,6 +11,7 @@ ghost use Rattle.batch.specs.Batch.{bit, count_of, code_with, code_of, answer_of
 use acts::{Acted, Answer, begins};
 use lanes::{Check, Lane, Op, State};
 use numbers::{Cell, Mark, Process, Terms};
+use refusals::Refusal;
 
 fn state_fits(s: State) -> bool
     ensures { result ≡ state_fits s }
@@ -46,9 +47,9 @@ fn count_of(b: bool, n: u8) -> u32
     if b { 256 + n as u32 } else { n as u32 }
 }
 
-fn code_of(a: Answer) -> u64
-    ensures word { result ≡ code_of a }
-    ensures back { answer_of result ≡ a }
+fn code_answer(a: Answer) -> u64
+    ensures word { result ≡ code_of (Ok a) }
+    ensures back { answer_of result ≡ Ok a }
 {
     match a {
         Answer::Begun => code(0, 0, 0),
@@ -56,24 +57,33 @@ fn code_of(a: Answer) -> u64
         Answer::Read(v, b, n) => code(2, count_of(b, n), v),
         Answer::Written(n) => code(3, n as u32, 0),
         Answer::Asked(b, n) => code(4, n as u32, bit(b)),
-        Answer::Refused(r) => code(5, refusals::number(r), 0),
+    }
+}
+
+fn code_of(a: Result<Answer, Refusal>) -> u64
+    ensures word { result ≡ code_of a }
+    ensures back { answer_of result ≡ a }
+{
+    match a {
+        Ok(answer) => code_answer(answer),
+        Err(r) => code(5, refusals::number(r), 0),
     }
 }
 
 // The answer that a word says.
-pub fn answer_of(w: u64) -> Answer
+pub fn answer_of(w: u64) -> Result<Answer, Refusal>
     ensures { result ≡ answer_of w }
 {
     let count = (w / 256 % 256) as u8;
     let flag = w / 65536 % 256;
     let value = (w / 4294967296) as u32;
     match w % 256 {
-        0 => Answer::Begun,
-        1 => Answer::Going,
-        2 => Answer::Read(value, flag == 1, count),
-        3 => Answer::Written(count),
-        4 => Answer::Asked(value == 1, count),
-        _ => Answer::Refused(refusals::of_number(count as u32)),
+        0 => Ok(Answer::Begun),
+        1 => Ok(Answer::Going),
+        2 => Ok(Answer::Read(value, flag == 1, count)),
+        3 => Ok(Answer::Written(count)),
+        4 => Ok(Answer::Asked(value == 1, count)),
+        _ => Err(refusals::of_number(count as u32)),
     }
 }
 
@@ -181,7 +191,7 @@ pub fn run(
         let answer = b.answer;
         steps::store::put_wide(answers, i, code_of(answer));
         i = i + 1;
-        if begins::changes(answer) {
+        if answer.is_ok() {
             let lane = b.lane;
             t.top = b.top;
             t.lanes[k] = lane;

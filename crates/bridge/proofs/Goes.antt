@@ -1,6 +1,6 @@
 -- A step of the code is the theory's step: what that takes, and the check (a) to (d).
 -- Assumes nothing.
-use Rattle.std.specs.Prelude.{ℕ, ◌+◌, ◌<◌, ◌≡◌, refl, ltb, eqb, length, get_or}
+use Rattle.std.specs.Prelude.{ℕ, ◌+◌, ◌<◌, ◌≡◌, refl, ltb, eqb, length, get_or, Option, None, Some}
 use Rattle.std.proofs.Common.{sym, ap, ◌∙◌, arith, lt-ltb}
 use Rattle.std.proofs.Math.Decide.{ℕ_discrete, dec_lt}
 use Rattle.numbers.specs.Numbers.{most_segments, segment_of, offset_of, process_of, place_of}
@@ -34,22 +34,22 @@ Carries z o i x (Next.Read v t) = Unit {0}
 Carries z o i x Next.Written = Unit {0}
 Carries z o i x (Next.Asked t) = Unit {0}
 
-abbrev pub turn_as : Turn → Theory.Turn
-turn_as Turn.Outside = Theory.turn_to Theory.keep (Theory.go Theory.store)
-turn_as (Turn.Turned change next) = Theory.turn_to (change_of change) (next_of next)
+abbrev pub turn_as : Option Turn → Theory.Turn
+turn_as None = Theory.turn_to Theory.keep (Theory.go Theory.store)
+turn_as (Some t) = Theory.turn_to (change_of t.change) (next_of t.next)
 
 -- a check that touches inside its memory; it holds the start x if it holds one
-abbrev pub Fine : ℕ → Found → Type 0
-Fine x Found.Outside = ⊥
-Fine x (Found.On c) = HeldIn c x
-Fine x (Found.NotWritten w) = Unit {0}
-Fine x Found.Written = Unit {0}
+abbrev pub Fine : ℕ → Option Found → Type 0
+Fine x None = ⊥
+Fine x (Some (Found.On c)) = HeldIn c x
+Fine x (Some (Found.NotWritten w)) = Unit {0}
+Fine x (Some Found.Written) = Unit {0}
 
 module _ {s : State} {mem : Memory} {b : Book} (H : Good s mem b) (q : ℕ) where
   abbrev pub memory : Theory.Mem
   memory = (behind H).watch.mem
 
-  abbrev pub turn_for : Op → Turn
+  abbrev pub turn_for : Op → Option Turn
   turn_for op = op_turn s.terms s.top q (lane_of s q) (marks_of s) mem op
 
   -- a step at an operation is the theory's step; `start` is the start held after it
@@ -57,8 +57,8 @@ module _ {s : State} {mem : Memory} {b : Book} (H : Good s mem b) (q : ℕ) wher
     pub change : Change
     pub next : Next
     pub start : ℕ
-    pub turned : turn_for op ≡ Turn.Turned change next
-    pub same : Theory.take_turn (grid_of s.terms) memory q o i (stage_of op) ≡ turn_as (Turn.Turned change next)
+    pub turned : turn_for op ≡ Some (makes change next)
+    pub same : Theory.take_turn (grid_of s.terms) memory q o i (stage_of op) ≡ turn_as (Some (makes change next))
     pub stores : Stores mem change
     pub words : Theory.words_after (grid_of s.terms) (behind H).words q i (stage_of op)
         ≡ words_of (top_after change s.top) (memory_after change mem) (Theory.upd H.held q start)
@@ -70,14 +70,14 @@ module _ {s : State} {mem : Memory} {b : Book} (H : Good s mem b) (q : ℕ) wher
 
   -- ---- the check
 
-  abbrev pub found : Cell → Check → Found
+  abbrev pub found : Cell → Check → Option Found
   found j c = check s.terms (marks_of s) mem.links mem.directory mem.pool j c
 
-  abbrev pub after : Theory.Op → ℕ → Found → Theory.Next
-  after o i Found.Outside = Theory.go Theory.store
-  after o i (Found.On c) = Theory.go (check_at c)
-  after o i (Found.NotWritten w) = Theory.failed (grid_of s.terms) memory q o i (seen_of w)
-  after o i Found.Written = Theory.passed o
+  abbrev pub after : Theory.Op → ℕ → Option Found → Theory.Next
+  after o i None = Theory.go Theory.store
+  after o i (Some (Found.On c)) = Theory.go (check_at c)
+  after o i (Some (Found.NotWritten w)) = Theory.failed (grid_of s.terms) memory q o i (seen_of w)
+  after o i (Some Found.Written) = Theory.passed o
 
   pub record Checked (o : Theory.Op) (j : Cell) (c : Check) : Type 0 where
     pub start : ℕ
@@ -89,16 +89,16 @@ module _ {s : State} {mem : Memory} {b : Book} (H : Good s mem b) (q : ℕ) wher
 
   -- a pool word that the touched place has
   pub word_at : (start n : ℕ) → start + offset_of n < length mem.pool
-      → pool_word mem.pool start n ≡ Got.Word (get_or mem.pool (start + offset_of n) 0)
+      → pool_word mem.pool start n ≡ Some (get_or mem.pool (start + offset_of n) 0)
   word_at start n h = rw (lt-ltb (start + offset_of n) (length mem.pool) h)
 
   pub checked : (o : Theory.Op) (j : Cell) (c : Check) → (behind H).watch.lane q ≡ Theory.busy o (index_of s.terms j) (check_at c)
       → HeldIn c (H.held q) → Checked o j c
   checked o j Check.Link e h = record {
     start = H.held q;
-    same = ap (Theory.turn_to Theory.keep) (pick_lt (after o i) (process_of w) s.terms.p (Found.On (Check.Marks w)) (Found.NotWritten w));
+    same = ap (Theory.turn_to Theory.keep) (pick_lt (λ f. after o i (Some f)) (process_of w) s.terms.p (Found.On (Check.Marks w)) (Found.NotWritten w));
     words = still;
-    fine = pick_both (Fine (H.held q)) (ltb (process_of w) s.terms.p) (Found.On (Check.Marks w)) (Found.NotWritten w) tt tt;
+    fine = pick_both (λ f. Fine (H.held q) (Some f)) (ltb (process_of w) s.terms.p) (Found.On (Check.Marks w)) (Found.NotWritten w) tt tt;
   }
     where
       i : ℕ
@@ -110,9 +110,9 @@ module _ {s : State} {mem : Memory} {b : Book} (H : Good s mem b) (q : ℕ) wher
     start = H.held q;
     same =
         ap (Theory.turn_to Theory.keep)
-        (pick_lt (after o (index_of s.terms j)) (place_of w) (marks_of s (process_of w)) (Found.On (Check.Directory w)) (Found.NotWritten w));
+        (pick_lt (λ f. after o (index_of s.terms j) (Some f)) (place_of w) (marks_of s (process_of w)) (Found.On (Check.Directory w)) (Found.NotWritten w));
     words = still;
-    fine = pick_both (Fine (H.held q)) (ltb (place_of w) (marks_of s (process_of w))) (Found.On (Check.Directory w)) (Found.NotWritten w) tt tt;
+    fine = pick_both (λ f. Fine (H.held q) (Some f)) (ltb (place_of w) (marks_of s (process_of w))) (Found.On (Check.Directory w)) (Found.NotWritten w) tt tt;
   }
   checked o j (Check.Directory w) e h = record {
     start = starts_in mem.directory (process_of w) (segment_of (place_of w));
@@ -127,9 +127,9 @@ module _ {s : State} {mem : Memory} {b : Book} (H : Good s mem b) (q : ℕ) wher
     same =
         ap (λ (y : ℕ). Theory.turn_to Theory.keep (Theory.pick (ℕ_discrete y own) (Theory.passed o)
         (Theory.failed (grid_of s.terms) memory q o i (seen_of w)))) (sym read)
-        ∙ ap (Theory.turn_to Theory.keep) (pick_eq (after o i) x own Found.Written (Found.NotWritten w) ∙ ap (after o i) (sym is));
+        ∙ ap (Theory.turn_to Theory.keep) (pick_eq (λ f. after o i (Some f)) x own Found.Written (Found.NotWritten w) ∙ ap (after o i) (sym is));
     words = still;
-    fine = rw is (pick_both (Fine (H.held q)) (eqb x own) Found.Written (Found.NotWritten w) tt tt);
+    fine = rw is (pick_both (λ f. Fine (H.held q) (Some f)) (eqb x own) Found.Written (Found.NotWritten w) tt tt);
   }
     where
       i : ℕ
@@ -144,5 +144,5 @@ module _ {s : State} {mem : Memory} {b : Book} (H : Good s mem b) (q : ℕ) wher
       read : x ≡ H.marks (process_of w) (place_of w)
       read = ap (λ (y : ℕ). get_or mem.pool (y + offset_of (place_of w)) 0) (sym h) ∙ Theory.mark_read (law H) H.whole q e
 
-      is : found j (Check.Mark start w) ≡ pick (eqb x own) Found.Written (Found.NotWritten w)
+      is : found j (Check.Mark start w) ≡ Some (pick (eqb x own) Found.Written (Found.NotWritten w))
       is = ap (check_mark own w) (word_at start (place_of w) (omega (arith, H.lengths.pool, h, (Theory.touches (law H) H.whole q e).1.0)))

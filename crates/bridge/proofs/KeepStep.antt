@@ -143,7 +143,7 @@ module _ {s : State} {mem : Memory} {b : Book} (H : Good s mem b) (q : ℕ) {beg
 
   abbrev after : Theory.Run
   after = record {
-    watch = Theory.stepped (behind H).watch q o i (turn_as (Turn.Turned g.change g.next));
+    watch = Theory.stepped (behind H).watch q o i (turn_as (Some (makes g.change g.next)));
     words = Theory.words_after (grid_of s.terms) (behind H).words q i (stage_of (lane_of s q).op);
     tally = (behind H).tally;
     taken = Theory.upd (behind H).taken q (suc ((behind H).taken q));

@@ -1,6 +1,6 @@
 -- Every step of a read and of an asked is the theory's step, and so is the check of a write.
 -- Assumes nothing.
-use Rattle.std.specs.Prelude.{ℕ, suc, ◌+◌, ◌<◌, ◌≡◌, refl, Bool, true, false, ltb, eqb, get_or}
+use Rattle.std.specs.Prelude.{ℕ, suc, ◌+◌, ◌<◌, ◌≡◌, refl, Bool, true, false, ltb, eqb, get_or, Option, None, Some}
 use Rattle.std.proofs.Common.{sym, ap, ◌∙◌, add-one}
 use Rattle.std.proofs.Math.Decide.{dec_lt}
 use Rattle.numbers.specs.Numbers.{segment_of, link_processes, link_places, link_of}
@@ -63,15 +63,15 @@ module _ {s : State} {mem : Memory} {b : Book} (H : Good s mem b) (q : ℕ) (j :
   at = index_of s.terms j
 
   -- what a turn makes of what was found: no change, and what the theory has next
-  record Says (o : Theory.Op) (x : ℕ) (f : Found) (t : Turn) : Type 0 where
+  record Says (o : Theory.Op) (x : ℕ) (f : Option Found) (t : Option Turn) : Type 0 where
     next : Next
-    is : t ≡ Turn.Turned Change.Nothing next
+    is : t ≡ Some (makes Change.Nothing next)
     same : after H q o at f ≡ next_of next
     carries : Carries s.terms o at x next
 
-  looks : (o : Theory.Op) (op : Op) (c : Check) (turn : Found → Turn) → stage_of op ≡ check_at c → turn_for H q op ≡ turn (found H q j c)
+  looks : (o : Theory.Op) (op : Op) (c : Check) (turn : Option Found → Option Turn) → stage_of op ≡ check_at c → turn_for H q op ≡ turn (found H q j c)
       → (behind H).watch.lane q ≡ Theory.busy o at (check_at c) → HeldIn c (H.held q)
-      → ((x : ℕ) (f : Found) → Fine x f → Says o x f (turn f)) → Goes H q o at op
+      → ((x : ℕ) (f : Option Found) → Fine x f → Says o x f (turn f)) → Goes H q o at op
   looks o op c turn stage is e h says = record {
     change = Change.Nothing;
     next = S.next;
@@ -89,17 +89,17 @@ module _ {s : State} {mem : Memory} {b : Book} (H : Good s mem b) (q : ℕ) (j :
       S : Says o K.start (found H q j c) (turn (found H q j c))
       S = says K.start (found H q j c) K.fine
 
-  read_says : (x : ℕ) (f : Found) → Fine x f → Says Theory.read x f (read_turn s.terms j f)
-  read_says x Found.Outside fine = elim fine [ ]
-  read_says x (Found.On c) fine = record { next = Next.Going (Op.Read j c); is = refl; same = refl; carries = (refl, fine) }
-  read_says x (Found.NotWritten w) fine = record { next = Next.Read (fill_at s.terms j) false; is = refl; same = refl; carries = tt }
-  read_says x Found.Written fine = record { next = Next.Going (Op.Reading j); is = refl; same = refl; carries = (refl, tt) }
+  read_says : (x : ℕ) (f : Option Found) → Fine x f → Says Theory.read x f (read_turn s.terms j f)
+  read_says x None fine = elim fine [ ]
+  read_says x (Some (Found.On c)) fine = record { next = Next.Going (Op.Read j c); is = refl; same = refl; carries = (refl, fine) }
+  read_says x (Some (Found.NotWritten w)) fine = record { next = Next.Read (fill_at s.terms j) false; is = refl; same = refl; carries = tt }
+  read_says x (Some Found.Written) fine = record { next = Next.Going (Op.Reading j); is = refl; same = refl; carries = (refl, tt) }
 
-  asked_says : (x : ℕ) (f : Found) → Fine x f → Says Theory.asked x f (asked_turn j f)
-  asked_says x Found.Outside fine = elim fine [ ]
-  asked_says x (Found.On c) fine = record { next = Next.Going (Op.Asked j c); is = refl; same = refl; carries = (refl, fine) }
-  asked_says x (Found.NotWritten w) fine = record { next = Next.Asked false; is = refl; same = refl; carries = tt }
-  asked_says x Found.Written fine = record { next = Next.Asked true; is = refl; same = refl; carries = tt }
+  asked_says : (x : ℕ) (f : Option Found) → Fine x f → Says Theory.asked x f (asked_turn j f)
+  asked_says x None fine = elim fine [ ]
+  asked_says x (Some (Found.On c)) fine = record { next = Next.Going (Op.Asked j c); is = refl; same = refl; carries = (refl, fine) }
+  asked_says x (Some (Found.NotWritten w)) fine = record { next = Next.Asked false; is = refl; same = refl; carries = tt }
+  asked_says x (Some Found.Written) fine = record { next = Next.Asked true; is = refl; same = refl; carries = tt }
 
   pub goes_read : (c : Check) → (behind H).watch.lane q ≡ Theory.busy Theory.read at (check_at c) → HeldIn c (H.held q)
       → Goes H q Theory.read at (Op.Read j c)
@@ -126,13 +126,13 @@ module _ {s : State} {mem : Memory} {b : Book} (H : Good s mem b) (q : ℕ) (j :
       → Goes H q (Theory.write v) at (Op.Write j c)
   goes_check v c hq hn e h = looks (Theory.write v) (Op.Write j c) c (checked_turn q (lane_of s q) j) refl refl e h says
     where
-      says : (x : ℕ) (f : Found) → Fine x f → Says (Theory.write v) x f (checked_turn q (lane_of s q) j f)
-      says x Found.Outside fine = elim fine [ ]
-      says x (Found.On c₁) fine = record { next = Next.Going (Op.Write j c₁); is = refl; same = refl; carries = (refl, fine) }
-      says x (Found.NotWritten w) fine = record {
+      says : (x : ℕ) (f : Option Found) → Fine x f → Says (Theory.write v) x f (checked_turn q (lane_of s q) j f)
+      says x None fine = elim fine [ ]
+      says x (Some (Found.On c₁)) fine = record { next = Next.Going (Op.Write j c₁); is = refl; same = refl; carries = (refl, fine) }
+      says x (Some (Found.NotWritten w)) fine = record {
         next = Next.Going (Op.Marking j (marking_at q (lane_of s q) w));
         is = refl;
         same = ap (λ (k : Theory.Marking). Theory.go (Theory.marking k)) (at_same H q w hq hn);
         carries = (refl, at_free q w x (lane_of s q));
       }
-      says x Found.Written fine = record { next = Next.Written; is = refl; same = refl; carries = tt }
+      says x (Some Found.Written) fine = record { next = Next.Written; is = refl; same = refl; carries = tt }

@@ -3,7 +3,7 @@
 use Rattle.std.specs.Prelude.{◌≡◌, refl, List, [], ◌∷◌}
 use Rattle.std.proofs.Common.{sym, ◌∙◌, subst}
 use Rattle.steps.specs.Memory.{Memory}
-use Rattle.acts.specs.declared.Opening.{Opening}
+use Rattle.acts.specs.Calls.{Opening}
 use Rattle.acts.specs.Calls as Grid
 use Rattle.acts.specs.Lent.{opening_open, admitted}
 use Rattle.acts.specs.Worlds.{Machine, World, world, grid, Call, begin, step, misfit, after, Accepted, opened_world}

@@ -1,12 +1,12 @@
 -- The theorems by the names a customer uses: for all terms, every memory that open accepts, and all calls.
 -- Assumes nothing.
-use Rattle.std.specs.Prelude.{ℕ, ◌<◌, ◌≡◌, ◌≢◌}
+use Rattle.std.specs.Prelude.{ℕ, ◌<◌, ◌≡◌, ◌≢◌, Err}
 use Rattle.std.proofs.Common.{ap}
 use mathlib.Core.List.{List, ◌++◌, Memᴰ}
 use Rattle.numbers.specs.Numbers.{fill_of}
 use Rattle.acts.specs.Worlds.{Reply, Result, World, world, grid, Call, begin, step, misfit, answer_to, world_after, Accepted, opened_world}
 use Rattle.theory.proofs.Interface as Theory
-use Rattle.demands.specs.Types.{Refusal, Terms, State, Memory, Ask, Answer}
+use Rattle.demands.specs.Types.{Refusal, Terms, State, Memory, Ask, Answer, Response}
 use Rattle.demands.specs.Kinds.{writing}
 use Rattle.demands.specs.Book.{Book, Run, run, start}
 use Rattle.demands.specs.Agrees.{Agrees}
@@ -21,7 +21,7 @@ use Rattle.bridge.proofs.Grows as Grows
 use Rattle.bridge.proofs.Proved.{demanded}
 
 -- Demand 1: a refused call leaves the world as it was, whatever the world is.
-pub a_refusal_changes_nothing : {z : Terms} (w : World State) (c : Call Ask z) (r : Refusal) → answer_to grid w c ≡ Answer.Refused r → world_after grid w c ≡ w
+pub a_refusal_changes_nothing : {z : Terms} (w : World State) (c : Call Ask z) (r : Refusal) → answer_to grid w c ≡ Err r → world_after grid w c ≡ w
 a_refusal_changes_nothing w (begin q a) r e =
     ap (λ (x : Reply State). world x.state w.memory) (demanded.demand_1.begin_refused w.state q a r e)
 a_refusal_changes_nothing w (step q) r e =
@@ -78,7 +78,7 @@ module _ (z : Terms) (mem : Memory) (ok : Accepted grid z mem) (calls : List (Ca
   pub refused_exactly_when : (c : Call Ask z) → said (answer_to grid after.world c) ≡ expected writing after.book c
   refused_exactly_when = met.refusals
 
-  pub never_nine : (c : Call Ask z) → answer_to grid after.world c ≢ Answer.Refused Refusal.OutOfRange
+  pub never_nine : (c : Call Ask z) → answer_to grid after.world c ≢ Err Refusal.OutOfRange
   never_nine = met.never_nine
 
   -- What the archive forgot: after an answer that showed a cell written, no later operation finds it empty.

@@ -1,6 +1,6 @@
 -- What each call comes to in a good state, and that the next run is good, its order grown.
 -- Assumes nothing.
-use Rattle.std.specs.Prelude.{ℕ, ◌<◌, ◌≡◌, Bool, false, ltb}
+use Rattle.std.specs.Prelude.{ℕ, ◌<◌, ◌≡◌, Bool, false, ltb, Ok, Err}
 use Rattle.std.proofs.Math.Path.{refl}
 use Rattle.std.proofs.Common.{sym, ap, ◌∙◌, subst, arith, get_or-set_same}
 use Rattle.std.proofs.Math.Bool.{true}
@@ -13,7 +13,7 @@ use Rattle.lanes.specs.Ranges.{rest, lane_of, idle, lane_fits, state_fits}
 use Rattle.steps.specs.Changes.{top_after}
 use Rattle.acts.specs.Calls as Grid
 use Rattle.theory.proofs.Interface as Theory
-use Rattle.demands.specs.Types.{Refusal, Terms, Op, Lane, State, Memory, Ask, Answer, Stepped, Verdict}
+use Rattle.demands.specs.Types.{Refusal, Terms, Op, Lane, State, Memory, Ask, Answer, Response, Stepped, Verdict}
 use Rattle.acts.specs.Lent.{lengths_fit_lem}
 use Rattle.acts.specs.Worlds.{grid, Call, begin, step, misfit}
 use Rattle.demands.specs.Book.{Doing, nothing, busy, Book, note_begin, note_step, Run, next}
@@ -59,7 +59,7 @@ module _ {s : State} {mem : Memory} {b : Book} (H : Good s mem b) where
           → Grid.begin_of s q a
           ≡ record {
             state = Grid.settled s q (begun_lane H q (ask_op a) at (Grid.op_of a) (starts s.terms a) hq free hi) s.top;
-            answer = Answer.Begun;
+            answer = Ok Answer.Begun;
           }
           → expected writing b (call_begin q a) ≡ begins → Begins
 
@@ -97,13 +97,13 @@ module _ {s : State} {mem : Memory} {b : Book} (H : Good s mem b) where
         → b.doing q ≡ nothing → Steps q
     accepts_step : {began taken : ℕ} {o : Theory.Op} {i : ℕ} (e : b.doing q ≡ busy began o i taken) (g : Goes H q o i (lane_of s q).op)
         → Grid.step_of s q mem
-        ≡ Grid.outcome (record { state = stepped_state H q e g; answer = Grid.answer_of (lane_of s q).steps g.next }) (stepped_memory H q e g)
+        ≡ Grid.outcome (record { state = stepped_state H q e g; answer = Ok (Grid.answer_of (lane_of s q).steps g.next) }) (stepped_memory H q e g)
         → expected writing b (call_step q) ≡ steps → Steps q
 
   abbrev judged : ℕ → Memory → Verdict
   judged q lent = Grid.verdict_of (state_fits s) s.terms s.top q (lane_of s q) lent (Grid.turn_in s q lent)
 
-  pub refused_step : (q : ℕ) (lent : Memory) (r : Refusal) → judged q lent ≡ Verdict.Refused r → Grid.step_of s q lent ≡ Grid.outcome (stays s r) lent
+  pub refused_step : (q : ℕ) (lent : Memory) (r : Refusal) → judged q lent ≡ Err r → Grid.step_of s q lent ≡ Grid.outcome (stays s r) lent
   refused_step q lent r e =
       ap (λ (v : Verdict). Grid.outcome_as s q (Grid.effect_of (lane_of s q) s.top lent v)) e
       ∙ ap (λ (x : Stepped). Grid.outcome x lent) (returned s q r)
@@ -115,7 +115,7 @@ module _ {s : State} {mem : Memory} {b : Book} (H : Good s mem b) where
         (subst (λ (l : Lane). lane_fits s.terms l ≡ true)
         (get_or-set_same s.lanes q (stepped_lane H q e g) rest (inside H q (own H q e g))) (lane_fits_lem (good_step H q e g).good q))
 
-    moved : judged q mem ≡ Verdict.Moved g.change g.next
+    moved : judged q mem ≡ Ok (makes g.change g.next)
     unfolding Grid.verdict_of
     moved =
         rw (

@@ -1,6 +1,6 @@
 -- Every step of a write after its check is the theory's step.
 -- Assumes nothing.
-use Rattle.std.specs.Prelude.{ℕ, suc, ◌+◌, ◌^◌, ◌<◌, ◌≡◌, refl, Bool, true, false, eqb, length, get_or}
+use Rattle.std.specs.Prelude.{ℕ, suc, ◌+◌, ◌^◌, ◌<◌, ◌≡◌, refl, Bool, true, false, eqb, length, get_or, Option}
 use Rattle.std.proofs.Common.{sym, ap, ◌∙◌, subst, add-one, arith}
 use Rattle.std.proofs.Math.Decide.{dec_lt}
 use Rattle.numbers.specs.Numbers.{most_segments, link_processes, link_places, segment_of, offset_of, size_of, directory_word, link_of, tombstone}
@@ -162,26 +162,26 @@ module _ {s : State} {mem : Memory} {b : Book} (H : Good s mem b) (q : ℕ) (hq 
       tch = Theory.touches (law H) H.whole q e
 
       won : Turn
-      won = Turn.Turned (Change.Link (index_of s.terms j) (link_of q n.0)) Next.Written
+      won = makes (Change.Link (index_of s.terms j) (link_of q n.0)) Next.Written
 
       lost : Turn
       lost = goes (Op.Marking j (Marking.TakeBack n))
 
       same : Theory.take_turn (grid_of s.terms) (memory H q) q (Theory.write v) at (Theory.marking (Theory.swap (seen_of w) n.0))
-          ≡ turn_as (pick (eqb (get_or mem.links at 0) w) won lost)
+          ≡ turn_as (Some (pick (eqb (get_or mem.links at 0) w) won lost))
       same =
           ap (λ (L : Theory.Link). Theory.pick (Theory.same_link (pair_of (get_or mem.links (index_of s.terms j) 0)) (pair_of w))
-          (Theory.turn_to (Theory.set_link (index_of s.terms j) L) (Theory.end Theory.done)) (turn_as lost))
+          (Theory.turn_to (Theory.set_link (index_of s.terms j) L) (Theory.end Theory.done)) (turn_as (Some lost)))
           (sym (pair_link q n.0 few (omega (arith, H.bounds.m_high, tch.1))))
-          ∙ pick_link turn_as (get_or mem.links (index_of s.terms j) 0) w (pair_of w) won lost refl
+          ∙ pick_link (λ (t : Turn). turn_as (Some t)) (get_or mem.links (index_of s.terms j) 0) w (pair_of w) won lost refl
 
       by : (t : Bool) → eqb (get_or mem.links at 0) w ≡ t → GoesAt (Marking.Swap w n)
       by true is = record {
         change = Change.Link (index_of s.terms j) (link_of q n.0);
         next = Next.Written;
         start = H.held q;
-        turned = ap (λ (t : Bool). pick t won lost) is;
-        same = same ∙ ap (λ (t : Bool). turn_as (pick t won lost)) is;
+        turned = ap (λ (t : Bool). Some (pick t won lost)) is;
+        same = same ∙ ap (λ (t : Bool). turn_as (Some (pick t won lost))) is;
         stores = omega (arith, H.lengths.links, tch.0);
         words = still H q;
         carries = tt;
@@ -190,8 +190,8 @@ module _ {s : State} {mem : Memory} {b : Book} (H : Good s mem b) (q : ℕ) (hq 
         change = Change.Nothing;
         next = Next.Going (Op.Marking j (Marking.TakeBack n));
         start = H.held q;
-        turned = ap (λ (t : Bool). pick t won lost) is;
-        same = same ∙ ap (λ (t : Bool). turn_as (pick t won lost)) is;
+        turned = ap (λ (t : Bool). Some (pick t won lost)) is;
+        same = same ∙ ap (λ (t : Bool). turn_as (Some (pick t won lost))) is;
         stores = tt;
         words = still H q;
         carries = (refl, tt);

@@ -1,6 +1,6 @@
 -- Demand 1 holds: the tables, and that a refusal changes nothing, in any state and memory.
 -- Assumes nothing.
-use Rattle.std.specs.Prelude.{ℕ, refl, Bool, true, false, not, List, [], ◌∷◌}
+use Rattle.std.specs.Prelude.{ℕ, refl, Bool, true, false, not, List, [], ◌∷◌, Ok, Err, Option, None}
 use Rattle.std.proofs.Math.Path.{◌≡◌, ap}
 use Rattle.std.proofs.Common.{sym, ◌∙◌, arith}
 use Rattle.refusals.specs.Orders.{Rule, orders}
@@ -8,7 +8,7 @@ use Rattle.refusals.specs.Laws.{orders_then}
 use Rattle.logic.specs.Pick.{pick}
 use Rattle.lanes.specs.Ranges.{lane_of, state_fits}
 use Rattle.acts.specs.Calls as Grid
-use Rattle.demands.specs.Types.{Refusal, Cell, Terms, Op, State, Memory, Next, Turn, Answer, Opening, Stepped, Acted, Verdict}
+use Rattle.demands.specs.Types.{Refusal, Cell, Terms, Op, State, Memory, Next, Turn, Answer, Response, Opening, Stepped, Acted, Verdict}
 use Rattle.acts.specs.Settled.{put_back}
 use Rattle.acts.specs.Worlds.{Reply, Result, grid}
 use Rattle.demands.specs.Kinds.{writing}
@@ -27,7 +27,7 @@ orders_all P refuse (r ∷ rs) work refuses works = by r.when (orders_all P refu
 
 -- a lane put back where it was
 abbrev pub stays : State → Refusal → Stepped
-stays s r = record { state = s; answer = Answer.Refused r }
+stays s r = record { state = s; answer = Err r }
 
 pub returned : (s : State) (q : ℕ) (r : Refusal) → Grid.stepped_as s q (Grid.refused_as (lane_of s q) s.top r) ≡ stays s r
 returned s q r = ap (λ (x : State). stays x r) (put_back s q)
@@ -42,10 +42,10 @@ module _ (s : State) (q : ℕ) (i : Cell) (op : Op) where
   unfolding Grid.begun_of
   begin_by_table = orders_then (λ (x : Acted). said x.answer) (Grid.refused_as (lane_of s q) s.top) (begin_table s q i) _
 
-  pub begin_returns : (r : Refusal) → begins_with.answer ≡ Answer.Refused r → Grid.stepped_as s q begins_with ≡ stays s r
+  pub begin_returns : (r : Refusal) → begins_with.answer ≡ Err r → Grid.stepped_as s q begins_with ≡ stays s r
   unfolding Grid.begun_of
   begin_returns r =
-      orders_all (λ (x : Acted). x.answer ≡ Answer.Refused r → Grid.stepped_as s q x ≡ stays s r) (Grid.refused_as (lane_of s q) s.top) (begin_table s q i) _
+      orders_all (λ (x : Acted). x.answer ≡ Err r → Grid.stepped_as s q x ≡ stays s r) (Grid.refused_as (lane_of s q) s.top) (begin_table s q i) _
       (λ k e. let same : k ≡ r = cc in returned s q k ∙ ap (stays s) same)
       (λ e. absurd (let y : ◌≡◌ {A = ℕ} 0 1 = cc in omega arith))
 
@@ -57,42 +57,42 @@ answers n (Next.Read v t) = refl
 answers n Next.Written = refl
 answers n (Next.Asked t) = refl
 
-no_refusal : (n : ℕ) (next : Next) (r : Refusal) → Grid.answer_of n next ≡ Answer.Refused r → ⊥
+no_refusal : (n : ℕ) (next : Next) (r : Refusal) → Ok (Grid.answer_of n next) ≡ Err r → ⊥
 no_refusal n next r e = let k : steps ≡ refused r = sym (answers n next) ∙ ap said e in let y : ◌≡◌ {A = ℕ} 0 1 = cc in omega arith
 
-module _ (s : State) (q : ℕ) (mem : Memory) (t : Turn) where
+module _ (s : State) (q : ℕ) (mem : Memory) (t : Option Turn) where
   abbrev after : Verdict → Grid.Effect
   after v = Grid.effect_of (lane_of s q) s.top mem v
 
-  decided_by_table : (u : Turn) → said (after (Grid.decided s.terms s.top (lane_of s q) u)).acted.answer ≡ orders refused (word_table s q u) steps
-  decided_by_table Turn.Outside = refl
-  decided_by_table (Turn.Turned change next) = by (Grid.numbers_fit s.terms s.top (lane_of s q) change next)
+  decided_by_table : (u : Option Turn) → said (after (Grid.decided s.terms s.top (lane_of s q) u)).acted.answer ≡ orders refused (word_table s q u) steps
+  decided_by_table None = refl
+  decided_by_table (Some u) = by (Grid.numbers_fit s.terms s.top (lane_of s q) u.change u.next)
     where
-      by : (t : Bool) → said (after (pick (not t) (Verdict.Refused Refusal.OutOfRange) (Verdict.Moved change next))).acted.answer
+      by : (t : Bool) → said (after (pick (not t) (Err Refusal.OutOfRange) (Ok u))).acted.answer
           ≡ pick (not t) (refused Refusal.OutOfRange) steps
-      by true = answers (lane_of s q).steps next
+      by true = answers (lane_of s q).steps u.next
       by false = refl
 
   pub step_by_table : said (Grid.step_by s q mem t).stepped.answer ≡ orders refused (step_table s q mem) (orders refused (word_table s q t) steps)
   unfolding Grid.verdict_of
   step_by_table =
-      orders_then (λ (v : Verdict). said (after v).acted.answer) Verdict.Refused (step_table s q mem) _
+      orders_then (λ (v : Verdict). said (after v).acted.answer) Err (step_table s q mem) _
       ∙ ap (orders refused (step_table s q mem)) (decided_by_table t)
 
-  pub step_returns : (r : Refusal) → (Grid.step_by s q mem t).stepped.answer ≡ Answer.Refused r → Grid.step_by s q mem t ≡ Grid.outcome (stays s r) mem
+  pub step_returns : (r : Refusal) → (Grid.step_by s q mem t).stepped.answer ≡ Err r → Grid.step_by s q mem t ≡ Grid.outcome (stays s r) mem
   step_returns r = by (Grid.verdict_of (state_fits s) s.terms s.top q (lane_of s q) mem t)
     where
-      by : (v : Verdict) → (after v).acted.answer ≡ Answer.Refused r → Grid.outcome_as s q (after v) ≡ Grid.outcome (stays s r) mem
-      by (Verdict.Refused k) e = let same : k ≡ r = cc in ap (λ (x : Stepped). Grid.outcome x mem) (returned s q k ∙ ap (stays s) same)
-      by (Verdict.Moved change next) e = absurd (no_refusal (lane_of s q).steps next r e)
+      by : (v : Verdict) → (after v).acted.answer ≡ Err r → Grid.outcome_as s q (after v) ≡ Grid.outcome (stays s r) mem
+      by (Err k) e = let same : k ≡ r = cc in ap (λ (x : Stepped). Grid.outcome x mem) (returned s q k ∙ ap (stays s) same)
+      by (Ok u) e = absurd (no_refusal (lane_of s q).steps u.next r e)
 
 -- ---- the three calls
 
 opening_is : (z : Terms) (o : Opening) → (Grid.opened_as z o).opening ≡ o
-opening_is z Opening.Open = refl
-opening_is z (Opening.Refused r) = refl
+opening_is z (Ok tt) = refl
+opening_is z (Err r) = refl
 
-opens_by_table : (z : Terms) (mem : Memory) → (Grid.open_of z mem).opening ≡ orders Opening.Refused (Grid.open_refusals z mem) Opening.Open
+opens_by_table : (z : Terms) (mem : Memory) → (Grid.open_of z mem).opening ≡ orders Err (Grid.open_refusals z mem) (Ok tt)
 unfolding Grid.opening_of
 opens_by_table z mem = opening_is z _
 

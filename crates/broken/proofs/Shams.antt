@@ -1,6 +1,6 @@
 -- Each sham breaks the clause that document 01 names for it, and none of them is what is demanded.
 -- Assumes nothing.
-use Rattle.std.specs.Prelude.{ℕ, ◌<◌, ◌≡◌, refl, List, [], ◌∷◌, get_or}
+use Rattle.std.specs.Prelude.{ℕ, ◌<◌, ◌≡◌, refl, List, [], ◌∷◌, get_or, Ok, Err}
 use Rattle.std.proofs.Common.{ap, subst, arith}
 use Rattle.std.proofs.Math.Decide.{ℕ_discrete}
 use Rattle.numbers.specs.Numbers.{fill_of, log_in, log2, segment_of, offset_of, size_of}
@@ -54,7 +54,7 @@ twice_breaks_the_count C = C 0
 
 pub closed_breaks_the_table : Demand1 writing closed_one → ⊥
 closed_breaks_the_table D =
-    let k : Opening.Refused Refusal.LentLength ≡ Opening.Open = D.open_table one (lent 1 1 (stray ∷ [])) in
+    let k : Err Refusal.LentLength ≡ (Ok tt) = D.open_table one (lent 1 1 (stray ∷ [])) in
     let y : ◌≡◌ {A = ℕ} 0 1 = cc in omega arith
 
 -- any of them that opens as the grid does

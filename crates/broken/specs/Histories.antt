@@ -1,6 +1,6 @@
 -- Histories: calls with their answers. One in which a reading vanishes has no one order: a test that computes.
 -- Assumes nothing.
-use Rattle.std.specs.Prelude.{ℕ, ◌≡◌, refl, ◌⊎◌, Bool, true, false, not, ◌&&◌, ltb, eqb}
+use Rattle.std.specs.Prelude.{ℕ, ◌≡◌, refl, ◌⊎◌, Bool, true, false, not, ◌&&◌, ltb, eqb, Ok, Err}
 use Rattle.std.proofs.Common.{sym, ◌∙◌, subst, inl, inr, arith, ltb-true, eqb-true, eq-eqb}
 use mathlib.Core.List.Memᴰ
 use mathlib.Core.List.{List, [], ◌∷◌, Memᴰ}
@@ -11,7 +11,7 @@ use Rattle.numbers.specs.Cells.{index_of}
 use Rattle.acts.specs.Calls.{cell_of}
 use Rattle.theory.specs.Interface as Theory
 use Rattle.theory.specs.Interface.{Op, read, asked, write, Ans, got, told, done, Done}
-use Rattle.demands.specs.Types.{Terms, State, Ask, Answer}
+use Rattle.demands.specs.Types.{Terms, State, Ask, Answer, Response}
 use Rattle.demands.specs.Kinds.{ask_op, writing}
 use Rattle.acts.specs.Worlds.{Machine, Call, begin, step, misfit, World, answer_to, world_after}
 use Rattle.demands.specs.Book.{Doing, nothing, busy, Book, blank, passed, finished, note_begin, note_step, goes_on, ends, noted, Run, next, run}
@@ -22,9 +22,9 @@ use Rattle.bridge.specs.Vanish.{nothing_vanishes}
 -- A call, and what was answered.
 pub record Heard (z : Terms) : Type 0 where
   pub call : Call Ask z
-  pub answer : Answer
+  pub answer : Response
 
-abbrev pub hear : {z : Terms} → Call Ask z → Answer → Heard z
+abbrev pub hear : {z : Terms} → Call Ask z → Response → Heard z
 hear c x = record { call = c; answer = x }
 
 -- The book kept of a history, and the history of a machine.
@@ -104,23 +104,23 @@ module _ (i x : ℕ) where
       by d (inl e) = rw e s
       by d (inr m) = Q.ended d m
 
-  begin_quiet : {b : Book} (q : ℕ) (o : Op) (c : ℕ) (y : Answer) → Other o c → Quiet b → Quiet (note_begin b q o c y)
-  begin_quiet {b} q o c Answer.Begun s Q = record { ended = Q.ended; doing = doing_upd b.doing q _ s Q.doing }
-  begin_quiet q o c Answer.Going s Q = pass_quiet Q
-  begin_quiet q o c (Answer.Read v t n) s Q = pass_quiet Q
-  begin_quiet q o c (Answer.Written n) s Q = pass_quiet Q
-  begin_quiet q o c (Answer.Asked t n) s Q = pass_quiet Q
-  begin_quiet q o c (Answer.Refused r) s Q = pass_quiet Q
+  begin_quiet : {b : Book} (q : ℕ) (o : Op) (c : ℕ) (y : Response) → Other o c → Quiet b → Quiet (note_begin b q o c y)
+  begin_quiet {b} q o c (Ok Answer.Begun) s Q = record { ended = Q.ended; doing = doing_upd b.doing q _ s Q.doing }
+  begin_quiet q o c (Ok Answer.Going) s Q = pass_quiet Q
+  begin_quiet q o c (Ok (Answer.Read v t n)) s Q = pass_quiet Q
+  begin_quiet q o c (Ok (Answer.Written n)) s Q = pass_quiet Q
+  begin_quiet q o c (Ok (Answer.Asked t n)) s Q = pass_quiet Q
+  begin_quiet q o c (Err r) s Q = pass_quiet Q
 
-  step_quiet : {b : Book} (q : ℕ) (y : Answer) → Quiet b → Quiet (note_step b q y)
-  step_quiet q Answer.Begun Q = pass_quiet Q
-  step_quiet {b} q Answer.Going Q = goes_quiet q (b.doing q) (Q.doing q) Q
-  step_quiet {b} q (Answer.Read v t n) Q = ends_quiet q (b.doing q) (got v t) (Q.doing q) Q
-  step_quiet {b} q (Answer.Written n) Q = ends_quiet q (b.doing q) done (Q.doing q) Q
-  step_quiet {b} q (Answer.Asked t n) Q = ends_quiet q (b.doing q) (told t) (Q.doing q) Q
-  step_quiet q (Answer.Refused r) Q = pass_quiet Q
+  step_quiet : {b : Book} (q : ℕ) (y : Response) → Quiet b → Quiet (note_step b q y)
+  step_quiet q (Ok Answer.Begun) Q = pass_quiet Q
+  step_quiet {b} q (Ok Answer.Going) Q = goes_quiet q (b.doing q) (Q.doing q) Q
+  step_quiet {b} q (Ok (Answer.Read v t n)) Q = ends_quiet q (b.doing q) (got v t) (Q.doing q) Q
+  step_quiet {b} q (Ok (Answer.Written n)) Q = ends_quiet q (b.doing q) done (Q.doing q) Q
+  step_quiet {b} q (Ok (Answer.Asked t n)) Q = ends_quiet q (b.doing q) (told t) (Q.doing q) Q
+  step_quiet q (Err r) Q = pass_quiet Q
 
-  call_quiet : {z : Terms} {b : Book} (c : Call Ask z) (y : Answer) → quiet_call i x c ≡ true → Quiet b → Quiet (noted writing b c y)
+  call_quiet : {z : Terms} {b : Book} (c : Call Ask z) (y : Response) → quiet_call i x c ≡ true → Quiet b → Quiet (noted writing b c y)
   call_quiet {z} (begin q a) y h Q = begin_quiet q (ask_op a) (index_of z (cell_of a)) y (other (ask_op a) (index_of z (cell_of a)) h) Q
   call_quiet (step q) y h Q = step_quiet q y Q
   call_quiet (misfit q mem k) y h Q = step_quiet q y Q

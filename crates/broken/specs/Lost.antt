@@ -1,9 +1,9 @@
 -- Histories that lose a reading: the letter's incident, and the schedules on which the mistaken machines lose one.
 -- Assumes nothing.
-use Rattle.std.specs.Prelude.{ℕ, zero, suc, true, false, List, [], ◌∷◌, replicate}
+use Rattle.std.specs.Prelude.{ℕ, zero, suc, true, false, List, [], ◌∷◌, replicate, Ok}
 use Rattle.numbers.specs.Numbers.{directory_words, pool_words}
 use Rattle.steps.specs.Memory.{memory}
-use Rattle.demands.specs.Types.{Cell, Terms, State, Memory, Ask, Answer}
+use Rattle.demands.specs.Types.{Cell, Terms, State, Memory, Ask, Answer, Response}
 use Rattle.acts.specs.Worlds.{Machine, World, grid, Call, begin, step, opened_world}
 use Rattle.broken.specs.Histories.{Heard, hear, history}
 use Rattle.broken.specs.Mistakes.{swaps_first, no_tombstone}
@@ -20,20 +20,20 @@ terms p m = record { p = p; m = m; first = 7; step = 0 }
 -- a loader writes 9; "it got the reading, then 'empty'"
 abbrev pub incident : List (Heard (terms 2 1))
 incident =
-    hear (begin 0 (Ask.Write (cell 0) 9)) Answer.Begun ∷ hear (step 0) (Answer.Written 1) ∷ hear (begin 1 (Ask.Read (cell 0))) Answer.Begun
-    ∷ hear (step 1) (Answer.Read 9 true 1) ∷ hear (begin 1 (Ask.Read (cell 0))) Answer.Begun ∷ hear (step 1) (Answer.Read 7 false 1) ∷ []
+    hear (begin 0 (Ask.Write (cell 0) 9)) (Ok Answer.Begun) ∷ hear (step 0) (Ok (Answer.Written 1)) ∷ hear (begin 1 (Ask.Read (cell 0))) (Ok Answer.Begun)
+    ∷ hear (step 1) (Ok (Answer.Read 9 true 1)) ∷ hear (begin 1 (Ask.Read (cell 0))) (Ok Answer.Begun) ∷ hear (step 1) (Ok (Answer.Read 7 false 1)) ∷ []
 
 -- zero load or no load: a loader writes 0 where 0 was filled in, and a read says "not written"
 abbrev pub zero_load : List (Heard (terms 2 1))
 zero_load =
-    hear (begin 0 (Ask.Write (cell 0) 0)) Answer.Begun ∷ hear (step 0) (Answer.Written 1) ∷ hear (begin 1 (Ask.Read (cell 0))) Answer.Begun
-    ∷ hear (step 1) (Answer.Read 0 false 1) ∷ []
+    hear (begin 0 (Ask.Write (cell 0) 0)) (Ok Answer.Begun) ∷ hear (step 0) (Ok (Answer.Written 1)) ∷ hear (begin 1 (Ask.Read (cell 0))) (Ok Answer.Begun)
+    ∷ hear (step 1) (Ok (Answer.Read 0 false 1)) ∷ []
 
 -- the same by the written-or-not question, while the write is under way
 abbrev pub question : List (Heard (terms 2 1))
 question =
-    hear (begin 0 (Ask.Write (cell 0) 9)) Answer.Begun ∷ hear (begin 1 (Ask.Asked (cell 0))) Answer.Begun ∷ hear (step 1) (Answer.Asked true 1)
-    ∷ hear (begin 1 (Ask.Asked (cell 0))) Answer.Begun ∷ hear (step 1) (Answer.Asked false 1) ∷ []
+    hear (begin 0 (Ask.Write (cell 0) 9)) (Ok Answer.Begun) ∷ hear (begin 1 (Ask.Asked (cell 0))) (Ok Answer.Begun) ∷ hear (step 1) (Ok (Answer.Asked true 1))
+    ∷ hear (begin 1 (Ask.Asked (cell 0))) (Ok Answer.Begun) ∷ hear (step 1) (Ok (Answer.Asked false 1)) ∷ []
 
 -- ---- schedules
 

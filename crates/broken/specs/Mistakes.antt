@@ -1,7 +1,7 @@
 -- "Plausible and wrong": machines with the mistakes of document 01's list, each a small variant of the step list. (004's copying is
 -- none of them: it needs arrays that move, which this state has not.)
 -- Assumes nothing.
-use Rattle.std.specs.Prelude.{ℕ, ◌+◌, ◌≡◌, refl, false, eqb, get_or}
+use Rattle.std.specs.Prelude.{ℕ, ◌+◌, ◌≡◌, refl, false, eqb, get_or, Option, None, Some}
 use Rattle.logic.specs.Pick.{pick}
 use Rattle.numbers.specs.Numbers.{link_of, offset_of}
 use Rattle.numbers.specs.Cells.{mark_of, index_of}
@@ -23,17 +23,17 @@ abbrev pub Rules : Type 0 → Type 0
 Rules A = Terms → ℕ → ℕ → Lane → (ℕ → ℕ) → Memory → A
 
 -- A machine that takes its steps by another list; by ours it is the grid.
-abbrev pub by : Rules (Op → Turn) → Machine State Ask
+abbrev pub by : Rules (Op → Option Turn) → Machine State Ask
 by turn = stepping (λ s q mem. Grid.step_by s q mem (turn s.terms s.top q (lane_of s q) (marks_of s) mem (lane_of s q).op))
 
 pub by_ours : (s : State) (q : ℕ) (mem : Memory) → (by op_turn).step s q mem ≡ grid.step s q mem
 by_ours s q mem = refl
 
-abbrev pub ours : Rules (Cell → Marking → Turn)
+abbrev pub ours : Rules (Cell → Marking → Option Turn)
 ours z top q l in_force mem i k = marking_turn z top q l mem.links mem.directory mem.pool i k
 
 -- the list with other rules for a write's check and for its marking
-abbrev pub writing : Rules (Cell → Found → Turn) → Rules (Cell → Marking → Turn) → Rules (Op → Turn)
+abbrev pub writing : Rules (Cell → Option Found → Option Turn) → Rules (Cell → Marking → Option Turn) → Rules (Op → Option Turn)
 writing check rule z top q l in_force mem Op.Idle = op_turn z top q l in_force mem Op.Idle
 writing check rule z top q l in_force mem (Op.Read i c) = op_turn z top q l in_force mem (Op.Read i c)
 writing check rule z top q l in_force mem (Op.Reading i) = op_turn z top q l in_force mem (Op.Reading i)
@@ -44,16 +44,17 @@ writing check rule z top q l in_force mem (Op.Marking i k) = rule z top q l in_f
 
 -- ---- 004, Remark 1: the link is swapped before the marks are in force
 
-abbrev pub swap_first : Rules (Cell → Marking → Turn)
+abbrev pub swap_first : Rules (Cell → Marking → Option Turn)
 swap_first z top q l in_force mem i (Marking.Draw stored link n) = ours z top q l in_force mem i (Marking.Draw stored link n)
 swap_first z top q l in_force mem i (Marking.Enter stored start link n) = ours z top q l in_force mem i (Marking.Enter stored start link n)
 swap_first z top q l in_force mem i (Marking.Tombstone link n) = ours z top q l in_force mem i (Marking.Tombstone link n)
 swap_first z top q l in_force mem i (Marking.Mark link n) = put_turn q mem.directory mem.pool i n (mark_of i) (Marking.Swap link n)
 swap_first z top q l in_force mem i (Marking.Swap link n) =
-    pick (eqb (get_or mem.links (index_of z i) 0) link)
-    (Turn.Turned (Change.Link (index_of z i) (link_of q n.0)) (Next.Going (Op.Marking i (Marking.Force link n))))
-    (Turn.Turned Change.Nothing Next.Written)
-swap_first z top q l in_force mem i (Marking.Force link n) = Turn.Turned (Change.Marks (n.0 + 1)) Next.Written
+    Some
+    (pick (eqb (get_or mem.links (index_of z i) 0) link)
+    (makes (Change.Link (index_of z i) (link_of q n.0)) (Next.Going (Op.Marking i (Marking.Force link n))))
+    (makes Change.Nothing Next.Written))
+swap_first z top q l in_force mem i (Marking.Force link n) = Some (makes (Change.Marks (n.0 + 1)) Next.Written)
 swap_first z top q l in_force mem i (Marking.TakeBack n) = ours z top q l in_force mem i (Marking.TakeBack n)
 
 abbrev pub swaps_first : Machine State Ask
@@ -61,11 +62,11 @@ swaps_first = by (writing (λ z top q l in_force mem. checked_turn q l) swap_fir
 
 -- ---- 004, section 4.1: no tombstone
 
-abbrev pub bare_turn : ℕ → Lane → Cell → Found → Turn
-bare_turn q l i Found.Outside = checked_turn q l i Found.Outside
-bare_turn q l i (Found.On c) = checked_turn q l i (Found.On c)
-bare_turn q l i (Found.NotWritten link) = goes (Op.Marking i (marking_next l link (record { 0 = l.marks })))
-bare_turn q l i Found.Written = checked_turn q l i Found.Written
+abbrev pub bare_turn : ℕ → Lane → Cell → Option Found → Option Turn
+bare_turn q l i None = checked_turn q l i None
+bare_turn q l i (Some (Found.On c)) = checked_turn q l i (Some (Found.On c))
+bare_turn q l i (Some (Found.NotWritten link)) = Some (goes (Op.Marking i (marking_next l link (record { 0 = l.marks }))))
+bare_turn q l i (Some Found.Written) = checked_turn q l i (Some Found.Written)
 
 abbrev pub no_tombstone : Machine State Ask
 no_tombstone = by (writing (λ z top q l in_force mem. bare_turn q l) ours)
@@ -75,11 +76,11 @@ no_tombstone = by (writing (λ z top q l in_force mem. bare_turn q l) ours)
 abbrev pub again_at : ℕ → ℕ → Place → Marking
 again_at q link n = pick (eqb (offset_of n.0) 0) (Marking.Draw false link n) (tombstone_first q link n)
 
-abbrev pub again_turn : ℕ → Lane → Cell → Found → Turn
-again_turn q l i Found.Outside = checked_turn q l i Found.Outside
-again_turn q l i (Found.On c) = checked_turn q l i (Found.On c)
-again_turn q l i (Found.NotWritten link) = goes (Op.Marking i (again_at q link (record { 0 = l.marks })))
-again_turn q l i Found.Written = checked_turn q l i Found.Written
+abbrev pub again_turn : ℕ → Lane → Cell → Option Found → Option Turn
+again_turn q l i None = checked_turn q l i None
+again_turn q l i (Some (Found.On c)) = checked_turn q l i (Some (Found.On c))
+again_turn q l i (Some (Found.NotWritten link)) = Some (goes (Op.Marking i (again_at q link (record { 0 = l.marks }))))
+again_turn q l i (Some Found.Written) = checked_turn q l i (Some Found.Written)
 
 abbrev pub draws_again : Machine State Ask
 draws_again = by (writing (λ z top q l in_force mem. again_turn q l) ours)

@@ -1,9 +1,9 @@
 -- Five shams, an open that refuses everything, and a write that ends twice.
 -- Assumes nothing.
-use Rattle.std.specs.Prelude.{ℕ, zero, suc, ◌+◌, List, [], ◌∷◌}
+use Rattle.std.specs.Prelude.{ℕ, zero, suc, ◌+◌, List, [], ◌∷◌, Ok, Err}
 use Rattle.lanes.specs.Ranges.{lane_of}
 use Rattle.acts.specs.Calls.{Outcome, outcome, step_of, settled, with_op, fresh, closed}
-use Rattle.demands.specs.Types.{Refusal, Cell, Terms, Check, Marking, Op, State, Memory, Ask, Answer, Opening}
+use Rattle.demands.specs.Types.{Refusal, Cell, Terms, Check, Marking, Op, State, Memory, Ask, Answer, Response, Opening}
 use Rattle.demands.specs.Kinds.{writing}
 use Rattle.acts.specs.Worlds.{Machine, grid, Call, World}
 use Rattle.demands.specs.Book.{Run, run, start}
@@ -18,7 +18,7 @@ abbrev pub one : Terms
 one = terms 1 1
 
 -- the grid, with other answers to its steps
-abbrev pub answering : (Answer → Answer) → Outcome → Outcome
+abbrev pub answering : (Response → Response) → Outcome → Outcome
 answering h o = outcome (record { state = o.stepped.state; answer = h o.stepped.answer }) o.memory
 
 abbrev pub after : Machine State Ask → List (Call Ask one) → Run State
@@ -35,13 +35,13 @@ refuser = record {
 
 -- ---- 2. One with a fixed answer breaks demand 2 at the first written cell.
 
-abbrev pub fixed_answer : Answer → Answer
-fixed_answer Answer.Begun = Answer.Begun
-fixed_answer Answer.Going = Answer.Going
-fixed_answer (Answer.Read v t n) = Answer.Read 7 t n
-fixed_answer (Answer.Written n) = Answer.Written n
-fixed_answer (Answer.Asked t n) = Answer.Asked t n
-fixed_answer (Answer.Refused r) = Answer.Refused r
+abbrev pub fixed_answer : Response → Response
+fixed_answer (Ok Answer.Begun) = Ok Answer.Begun
+fixed_answer (Ok Answer.Going) = Ok Answer.Going
+fixed_answer (Ok (Answer.Read v t n)) = Ok (Answer.Read 7 t n)
+fixed_answer (Ok (Answer.Written n)) = Ok (Answer.Written n)
+fixed_answer (Ok (Answer.Asked t n)) = Ok (Answer.Asked t n)
+fixed_answer (Err r) = Err r
 
 abbrev pub fixed : Machine State Ask
 fixed = stepping (λ s q mem. answering fixed_answer (step_of s q mem))
@@ -51,13 +51,13 @@ written_then_read = writes 0 0 9 then steps 0 7 then reads 0 0 then steps 0 5
 
 -- ---- 3. One whose steps change nothing breaks demand 3, since no operation ends.
 
-abbrev pub going_on : State → Memory → Answer → Outcome
-going_on s mem Answer.Begun = outcome (record { state = s; answer = Answer.Going }) mem
-going_on s mem Answer.Going = outcome (record { state = s; answer = Answer.Going }) mem
-going_on s mem (Answer.Read v t n) = outcome (record { state = s; answer = Answer.Going }) mem
-going_on s mem (Answer.Written n) = outcome (record { state = s; answer = Answer.Going }) mem
-going_on s mem (Answer.Asked t n) = outcome (record { state = s; answer = Answer.Going }) mem
-going_on s mem (Answer.Refused r) = outcome (stays s r) mem
+abbrev pub going_on : State → Memory → Response → Outcome
+going_on s mem (Ok Answer.Begun) = outcome (record { state = s; answer = Ok Answer.Going }) mem
+going_on s mem (Ok Answer.Going) = outcome (record { state = s; answer = Ok Answer.Going }) mem
+going_on s mem (Ok (Answer.Read v t n)) = outcome (record { state = s; answer = Ok Answer.Going }) mem
+going_on s mem (Ok (Answer.Written n)) = outcome (record { state = s; answer = Ok Answer.Going }) mem
+going_on s mem (Ok (Answer.Asked t n)) = outcome (record { state = s; answer = Ok Answer.Going }) mem
+going_on s mem (Err r) = outcome (stays s r) mem
 
 abbrev pub idler : Machine State Ask
 idler = stepping (λ s q mem. going_on s mem (step_of s q mem).stepped.answer)
@@ -76,7 +76,7 @@ hurried (suc n) s q mem = let o = step_of s q mem in hurried n o.stepped.state q
 abbrev pub idling : World State → ℕ → Cell → Outcome
 idling w q i =
     outcome
-    (record { state = settled w.state q (with_op (lane_of w.state q) 1 (Op.Write i Check.Link)) w.state.top; answer = Answer.Going })
+    (record { state = settled w.state q (with_op (lane_of w.state q) 1 (Op.Write i Check.Link)) w.state.top; answer = Ok Answer.Going })
     w.memory
 
 abbrev pub hasty : State → ℕ → Memory → Op → Outcome
@@ -93,13 +93,13 @@ hasty_one = stepping (λ s q mem. hasty s q mem (lane_of s q).op)
 
 -- ---- 5. One that invents step counts breaks demand 3.
 
-abbrev pub one_more : Answer → Answer
-one_more Answer.Begun = Answer.Begun
-one_more Answer.Going = Answer.Going
-one_more (Answer.Read v t n) = Answer.Read v t (n + 1)
-one_more (Answer.Written n) = Answer.Written (n + 1)
-one_more (Answer.Asked t n) = Answer.Asked t (n + 1)
-one_more (Answer.Refused r) = Answer.Refused r
+abbrev pub one_more : Response → Response
+one_more (Ok Answer.Begun) = Ok Answer.Begun
+one_more (Ok Answer.Going) = Ok Answer.Going
+one_more (Ok (Answer.Read v t n)) = Ok (Answer.Read v t (n + 1))
+one_more (Ok (Answer.Written n)) = Ok (Answer.Written (n + 1))
+one_more (Ok (Answer.Asked t n)) = Ok (Answer.Asked t (n + 1))
+one_more (Err r) = Err r
 
 abbrev pub inventor : Machine State Ask
 inventor = stepping (λ s q mem. answering one_more (step_of s q mem))
@@ -109,17 +109,17 @@ begun_read = reads 0 0
 
 -- ---- A write that ends twice breaks demand 3: each operation ends once.
 
-abbrev pub ends_again : Outcome → ℕ → Answer → Outcome
-ends_again o q Answer.Begun = o
-ends_again o q Answer.Going = o
-ends_again o q (Answer.Read v t n) = o
-ends_again o q (Answer.Asked t n) = o
-ends_again o q (Answer.Refused r) = o
-ends_again o q (Answer.Written n) =
+abbrev pub ends_again : Outcome → ℕ → Response → Outcome
+ends_again o q (Ok Answer.Begun) = o
+ends_again o q (Ok Answer.Going) = o
+ends_again o q (Ok (Answer.Read v t n)) = o
+ends_again o q (Ok (Answer.Asked t n)) = o
+ends_again o q (Err r) = o
+ends_again o q (Ok (Answer.Written n)) =
     let s = o.stepped.state in
     let l = lane_of s q in
     outcome
-    (record { state = settled s q (with_op l 0 (Op.Marking (cell 0) (Marking.TakeBack (record { 0 = l.marks })))) s.top; answer = Answer.Written n })
+    (record { state = settled s q (with_op l 0 (Op.Marking (cell 0) (Marking.TakeBack (record { 0 = l.marks })))) s.top; answer = Ok (Answer.Written n) })
     o.memory
 
 abbrev pub twice : Machine State Ask
@@ -132,7 +132,7 @@ once_written = writes 0 0 9 then steps 0 7
 
 abbrev pub closed_one : Machine State Ask
 closed_one = record {
-  opens = λ z mem. record { state = fresh closed; opening = Opening.Refused Refusal.LentLength };
+  opens = λ z mem. record { state = fresh closed; opening = Err Refusal.LentLength };
   begin = grid.begin;
   step = grid.step;
 }

@@ -2,7 +2,7 @@
 -- Assumes nothing.
 use Rattle.std.specs.Prelude.{ℕ, zero, suc, List, [], ◌∷◌}
 use Rattle.acts.specs.Calls.{step_of}
-use Rattle.demands.specs.Types.{State, Ask, Answer}
+use Rattle.demands.specs.Types.{State, Ask, Answer, Response}
 use Rattle.demands.specs.Kinds.{writing}
 use Rattle.acts.specs.Worlds.{grid, Call, begin}
 use Rattle.demands.specs.Book.{Run, run, start}
@@ -12,7 +12,7 @@ abbrev pub after : (p m : ℕ) → List ℕ → List (Call Ask (terms p m)) → 
 after p m links calls = run writing grid (start (opened p m links)) calls
 
 -- what the next step of process q is answered
-abbrev pub answered : Run State → ℕ → Answer
+abbrev pub answered : Run State → ℕ → Response
 answered r q = (step_of r.world.state q r.world.memory).stepped.answer
 
 -- A read of a written cell ends with its step 5, a question with its step 4.

@@ -1,6 +1,6 @@
 -- Proof: a step changes at most one shared word, and nothing of another lane.
 -- Assumes nothing.
-use Rattle.std.specs.Prelude.{ℕ, ◌+◌, ◌≡◌, refl, ◌≢◌, Bool, true, false, not, List, ltb, length, get_or, set}
+use Rattle.std.specs.Prelude.{ℕ, ◌+◌, ◌≡◌, refl, ◌≢◌, Bool, true, false, not, List, ltb, length, get_or, set, Option, None, Some, Ok, Err}
 use Rattle.std.proofs.Common.{sym, ap, ◌∙◌, subst, arith, length-set, get_or-set_same, get_or-set_other, ltb-true, ltb-false}
 use Rattle.std.proofs.Math.Decide.{ℕ_discrete}
 use Rattle.std.proofs.Math.Seq.{set_out}
@@ -20,7 +20,7 @@ use Rattle.steps.specs.Memory.{Memory}
 use Rattle.steps.specs.Changes.{lane_after, top_after, memory_after}
 use Rattle.steps.specs.Touched.{touched}
 use Rattle.steps.proofs.OneWord.{Stores, others_stay, drawn_stays, turn_stores}
-use Rattle.acts.specs.declared.Verdict.{Verdict}
+use Rattle.acts.specs.Calls.{Verdict}
 use Rattle.acts.specs.Settled.{put_back}
 use Rattle.acts.specs.Calls.{step_refusals, settled, advance, numbers_fit, decided, verdict_of, effect_of, outcome_as, turn_in}
 use Rattle.claims.specs.Claims.{Changed, ChangesOneWord}
@@ -102,13 +102,13 @@ none : {A : Type 0} → ◌≡◌ {A = ℕ} 0 1 → A
 none h = absurd (omega arith)
 
 -- a step that moves takes its turn
-module _ (z : Terms) (top : ℕ) (l : Lane) (ch : Change) (nx : Next) where
-  decides : (t : Turn) → decided z top l t ≡ Verdict.Moved ch nx → t ≡ Turn.Turned ch nx
-  decides Turn.Outside e = none cc
-  decides (Turn.Turned d m) e = by (numbers_fit z top l d m) e
+module _ (z : Terms) (top : ℕ) (l : Lane) (u : Turn) where
+  decides : (t : Option Turn) → decided z top l t ≡ Ok u → t ≡ Some u
+  decides None e = none cc
+  decides (Some t) e = by (numbers_fit z top l t.change t.next) e
     where
-      by : (b : Bool) → pick (not b) (Verdict.Refused Refusal.OutOfRange) (Verdict.Moved d m) ≡ Verdict.Moved ch nx → Turn.Turned d m ≡ Turn.Turned ch nx
-      by true h = let f : d ≡ ch = cc in let g : m ≡ nx = cc in rw (f, g)
+      by : (b : Bool) → pick (not b) (Err Refusal.OutOfRange) (Ok t) ≡ Ok u → Some t ≡ Some u
+      by true h = let f : t ≡ u = cc in ap Some f
       by false h = none cc
 
 pub a_step_changes_one_word : ChangesOneWord
@@ -118,16 +118,16 @@ a_step_changes_one_word s q mem = by (verdict_of (state_fits s) s.terms s.top q 
     w : Word
     w = touched s.terms q mem.directory (lane_of s q).op
 
-    takes : (ch : Change) (nx : Next) → verdict_of (state_fits s) s.terms s.top q (lane_of s q) mem (turn_in s q mem) ≡ Verdict.Moved ch nx
-        → turn_in s q mem ≡ Turn.Turned ch nx
-    takes ch nx e =
-        decides s.terms s.top (lane_of s q) ch nx (turn_in s q mem)
-        (past Verdict.Refused (step_refusals (state_fits s) s.terms mem q (lane_of s q)) (decided s.terms s.top (lane_of s q) (turn_in s q mem))
-        (Verdict.Moved ch nx) (λ r h. none cc) e).1
+    takes : (u : Turn) → verdict_of (state_fits s) s.terms s.top q (lane_of s q) mem (turn_in s q mem) ≡ Ok u
+        → turn_in s q mem ≡ Some u
+    takes u e =
+        decides s.terms s.top (lane_of s q) u (turn_in s q mem)
+        (past Err (step_refusals (state_fits s) s.terms mem q (lane_of s q)) (decided s.terms s.top (lane_of s q) (turn_in s q mem))
+        (Ok u) (λ r h. none cc) e).1
 
     by : (v : Verdict) → verdict_of (state_fits s) s.terms s.top q (lane_of s q) mem (turn_in s q mem) ≡ v
         → Changed q w s (outcome_as s q (effect_of (lane_of s q) s.top mem v)).stepped.state mem
         (outcome_as s q (effect_of (lane_of s q) s.top mem v)).memory
-    by (Verdict.Refused x) e = subst (λ (y : State). Changed q w s y mem mem) (sym (put_back s q)) (unchanged q w s mem)
-    by (Verdict.Moved ch nx) e =
-        moves s q mem nx ch w (turn_stores s.terms s.top q (lane_of s q) (marks_of s) mem ch nx (takes ch nx e))
+    by (Err x) e = subst (λ (y : State). Changed q w s y mem mem) (sym (put_back s q)) (unchanged q w s mem)
+    by (Ok u) e =
+        moves s q mem u.next u.change w (turn_stores s.terms s.top q (lane_of s q) (marks_of s) mem u.change u.next (takes u e))

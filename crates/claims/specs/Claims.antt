@@ -1,6 +1,6 @@
 -- What is claimed of open, begin and step in any state and memory. Definitions only: the modules below it have the proofs.
 -- Assumes nothing.
-use Rattle.std.specs.Prelude.{ℕ, ◌<◌, ◌≡◌, ◌≢◌, true, length, get_or}
+use Rattle.std.specs.Prelude.{ℕ, ◌<◌, ◌≡◌, ◌≢◌, true, length, get_or, Err}
 use Rattle.logic.specs.Determined.{Determined}
 use Rattle.numbers.specs.Numbers.{directory_word}
 use Rattle.numbers.specs.declared.Terms.{Terms}
@@ -14,7 +14,6 @@ use Rattle.steps.specs.Changes.{lane_after, top_after}
 use Rattle.acts.specs.declared.Ask.{Ask}
 use Rattle.acts.specs.declared.Answer.TheVariants as Answer
 use Rattle.acts.specs.declared.Stepped.{Stepped}
-use Rattle.acts.specs.declared.Opening.TheVariants as Opening
 use Rattle.acts.specs.declared.Opened.{Opened}
 use Rattle.acts.specs.Calls as Calls
 use Rattle.acts.specs.Calls.{fresh, open_of, begin_of, outcome, turn_in, step_of, settled, advance, numbers_fit}
@@ -39,21 +38,21 @@ abbrev pub closed : State
 closed = fresh Calls.closed
 
 abbrev pub RefusedOpen : Type 0
-RefusedOpen = (z : Terms) (mem : Memory) (r : Refusal) → (open_of z mem).opening ≡ Opening.Refused r → (open_of z mem).state ≡ closed
+RefusedOpen = (z : Terms) (mem : Memory) (r : Refusal) → (open_of z mem).opening ≡ Err r → (open_of z mem).state ≡ closed
 
 -- Every call on the closed state is refused with 9.
 abbrev pub ClosedBegin : Type 0
-ClosedBegin = (q : ℕ) (a : Ask) → begin_of closed q a ≡ record { state = closed; answer = Answer.Refused Refusal.OutOfRange }
+ClosedBegin = (q : ℕ) (a : Ask) → begin_of closed q a ≡ record { state = closed; answer = Err Refusal.OutOfRange }
 
 abbrev pub ClosedStep : Type 0
-ClosedStep = (q : ℕ) (mem : Memory) → step_of closed q mem ≡ outcome (record { state = closed; answer = Answer.Refused Refusal.OutOfRange }) mem
+ClosedStep = (q : ℕ) (mem : Memory) → step_of closed q mem ≡ outcome (record { state = closed; answer = Err Refusal.OutOfRange }) mem
 
 abbrev pub RefusedBegin : Type 0
-RefusedBegin = (s : State) (q : ℕ) (a : Ask) (r : Refusal) → (begin_of s q a).answer ≡ Answer.Refused r → (begin_of s q a).state ≡ s
+RefusedBegin = (s : State) (q : ℕ) (a : Ask) (r : Refusal) → (begin_of s q a).answer ≡ Err r → (begin_of s q a).state ≡ s
 
 abbrev pub RefusedStep : Type 0
 RefusedStep =
-    (s : State) (q : ℕ) (mem : Memory) (r : Refusal) → (step_of s q mem).stepped.answer ≡ Answer.Refused r
+    (s : State) (q : ℕ) (mem : Memory) (r : Refusal) → (step_of s q mem).stepped.answer ≡ Err r
     → ((step_of s q mem).stepped.state ≡ s) × ((step_of s q mem).memory ≡ mem)
 
 -- ONE WORD: a step changes at most the one shared word that it touches (with the pool's top goes the count of drawn segments) and

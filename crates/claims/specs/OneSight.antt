@@ -1,6 +1,6 @@
 -- Proof: a step sees one shared word.
 -- Assumes nothing.
-use Rattle.std.specs.Prelude.{ℕ, ◌+◌, ◌≡◌, refl, true, List, length, get_or}
+use Rattle.std.specs.Prelude.{ℕ, ◌+◌, ◌≡◌, refl, true, List, length, get_or, Option, None, Some}
 use Rattle.std.proofs.Common.{ap, ◌∙◌}
 use Rattle.numbers.specs.Numbers.{segment_of, offset_of, directory_word, place_of}
 use Rattle.numbers.specs.declared.Cell.{Cell}
@@ -12,7 +12,6 @@ use Rattle.lanes.specs.declared.Op.{Op}
 use Rattle.lanes.specs.declared.Lane.{Lane}
 use Rattle.lanes.specs.declared.State.{State}
 use Rattle.lanes.specs.Ranges.{lane_of, marks_of}
-use Rattle.steps.specs.declared.Got.{Got}
 use Rattle.steps.specs.declared.Found.{Found}
 use Rattle.steps.specs.Memory.{Memory}
 use Rattle.steps.specs.Steps as Steps
@@ -48,7 +47,7 @@ module _ (z : Terms) (q : ℕ) (l : Lane) (s s' : State) (mem mem' : Memory) (hl
       → get_or mem.pool (start_of mem.directory q n.0 + offset_of n.0) 0 ≡ get_or mem'.pool (start_of mem.directory q n.0 + offset_of n.0) 0
       → put_turn q mem.directory mem.pool i n mark k ≡ put_turn q mem'.directory mem'.pool i n mark k
   put_same i n mark k w e =
-      ap (λ (g : Got). Steps.stored (start_of mem.directory q n.0) i n mark k g)
+      ap (λ (g : Option ℕ). Steps.stored (start_of mem.directory q n.0) i n mark k g)
       (word_same mem.pool mem'.pool (start_of mem.directory q n.0) n.0 hl e)
       ∙ ap (λ (x : ℕ). Steps.stored x i n mark k (pool_word mem'.pool x n.0)) (w (segment_of n.0))
 
@@ -89,11 +88,11 @@ module _ (z z' : Terms) (hp : z.p ≡ z'.p) (hf : z.first ≡ z'.first) (hs : z.
   marking_of_three i (Marking.Swap x n) = refl
   marking_of_three i (Marking.TakeBack n) = refl
 
-  read_of_three : (i : Cell) (f : Found) → read_turn z i f ≡ read_turn z' i f
-  read_of_three i Found.Outside = refl
-  read_of_three i (Found.On c) = refl
-  read_of_three i (Found.NotWritten link) = ap ends (rw (hf, hs) refl)
-  read_of_three i Found.Written = refl
+  read_of_three : (i : Cell) (f : Option Found) → read_turn z i f ≡ read_turn z' i f
+  read_of_three i None = refl
+  read_of_three i (Some (Found.On c)) = refl
+  read_of_three i (Some (Found.NotWritten link)) = ap (λ (n : Next). Some (ends n)) (rw (hf, hs) refl)
+  read_of_three i (Some Found.Written) = refl
 
   turn_of_three : (o : Op) → op_turn z top q l in_force mem o ≡ op_turn z' top q l in_force mem o
   turn_of_three Op.Idle = refl

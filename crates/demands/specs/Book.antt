@@ -1,12 +1,12 @@
 -- What an observer writes down, from calls and answers alone, never from the state.
 -- Assumes nothing.
-use Rattle.std.specs.Prelude.{ℕ, suc, List, [], ◌∷◌}
+use Rattle.std.specs.Prelude.{ℕ, suc, List, [], ◌∷◌, Ok, Err}
 use Rattle.numbers.specs.Cells.{index_of}
 use Rattle.acts.specs.Worlds.{Machine, Call, begin, step, misfit, World, answer_to, world_after}
 use Rattle.theory.specs.Base.{upd}
 use Rattle.theory.specs.Array.{Op, read, asked, write, Ans, got, told, done}
 use Rattle.theory.specs.Order.{Done}
-use Rattle.demands.specs.Types.{Terms, Answer}
+use Rattle.demands.specs.Types.{Terms, Answer, Response}
 use Rattle.demands.specs.Kinds.{Kind}
 
 -- A process is doing nothing, or is busy: since which call, with which operation of which cell, after how many accepted steps.
@@ -61,21 +61,21 @@ abbrev pub ends : Book → ℕ → Doing → Ans → Book
 ends b q nothing x = passed b
 ends b q (busy began o i taken) x = counted b q nothing (finished b q began o i x ∷ b.ended)
 
-abbrev pub note_begin : Book → ℕ → Op → ℕ → Answer → Book
-note_begin b q o i Answer.Begun = begun b q o i
-note_begin b q o i Answer.Going = passed b
-note_begin b q o i (Answer.Read v t n) = passed b
-note_begin b q o i (Answer.Written n) = passed b
-note_begin b q o i (Answer.Asked t n) = passed b
-note_begin b q o i (Answer.Refused r) = passed b
+abbrev pub note_begin : Book → ℕ → Op → ℕ → Response → Book
+note_begin b q o i (Ok Answer.Begun) = begun b q o i
+note_begin b q o i (Ok Answer.Going) = passed b
+note_begin b q o i (Ok (Answer.Read v t n)) = passed b
+note_begin b q o i (Ok (Answer.Written n)) = passed b
+note_begin b q o i (Ok (Answer.Asked t n)) = passed b
+note_begin b q o i (Err r) = passed b
 
-abbrev pub note_step : Book → ℕ → Answer → Book
-note_step b q Answer.Begun = passed b
-note_step b q Answer.Going = goes_on b q (b.doing q)
-note_step b q (Answer.Read v t n) = ends b q (b.doing q) (got v t)
-note_step b q (Answer.Written n) = ends b q (b.doing q) done
-note_step b q (Answer.Asked t n) = ends b q (b.doing q) (told t)
-note_step b q (Answer.Refused r) = passed b
+abbrev pub note_step : Book → ℕ → Response → Book
+note_step b q (Ok Answer.Begun) = passed b
+note_step b q (Ok Answer.Going) = goes_on b q (b.doing q)
+note_step b q (Ok (Answer.Read v t n)) = ends b q (b.doing q) (got v t)
+note_step b q (Ok (Answer.Written n)) = ends b q (b.doing q) done
+note_step b q (Ok (Answer.Asked t n)) = ends b q (b.doing q) (told t)
+note_step b q (Err r) = passed b
 
 -- A run: the world after any calls, one after the other, and the book kept of them. A cell is written down by its index.
 pub record Run (S : Type 0) : Type 0 where
@@ -86,7 +86,7 @@ abbrev pub start : {S : Type 0} → World S → Run S
 start w = record { world = w; book = blank }
 
 module _ {S A : Type 0} (K : Kind S A) where
-  abbrev pub noted : {z : Terms} → Book → Call A z → Answer → Book
+  abbrev pub noted : {z : Terms} → Book → Call A z → Response → Book
   noted {z} b (begin q a) x = note_begin b q (K.op a) (index_of z (K.cell a)) x
   noted b (step q) x = note_step b q x
   noted b (misfit q mem h) x = note_step b q x

@@ -2,11 +2,11 @@
 -- reported count is the count of its steps. Mark words handed out never exceed 4 for each different cell for which a
 -- write has begun plus 2 for each loader that has begun one. So a pool of 4 per cell plus 2 per loader never runs short."
 -- Assumes nothing.
-use Rattle.std.specs.Prelude.{ℕ, suc, ◌+◌, ◌*◌, ◌≤◌, ◌<◌, ◌≡◌}
+use Rattle.std.specs.Prelude.{ℕ, suc, ◌+◌, ◌*◌, ◌≤◌, ◌<◌, ◌≡◌, Ok, Err}
 use Rattle.acts.specs.Worlds.{Machine}
 use Rattle.theory.specs.Array.{Op, read, asked, write}
 use Rattle.theory.specs.Sum.{sum}
-use Rattle.demands.specs.Types.{Terms, State, Answer}
+use Rattle.demands.specs.Types.{Terms, State, Answer, Response}
 use Rattle.demands.specs.Book.{Doing, nothing, busy, Book, Run}
 
 abbrev pub most_steps : Op → ℕ
@@ -19,24 +19,24 @@ abbrev pub Reports : ℕ → ℕ → ℕ → Type 0
 Reports most taken n = (n ≡ taken) × (n ≤ most)
 
 -- An accepted step is the `taken`-th of an operation: it goes on, and is not the last allowed; or it ends the operation.
-abbrev pub Answers : ℕ → ℕ → Answer → Type 0
-Answers most taken Answer.Begun = ⊥
-Answers most taken Answer.Going = taken < most
-Answers most taken (Answer.Read v t n) = Reports most taken n
-Answers most taken (Answer.Written n) = Reports most taken n
-Answers most taken (Answer.Asked t n) = Reports most taken n
-Answers most taken (Answer.Refused r) = Unit {0}
+abbrev pub Answers : ℕ → ℕ → Response → Type 0
+Answers most taken (Ok Answer.Begun) = ⊥
+Answers most taken (Ok Answer.Going) = taken < most
+Answers most taken (Ok (Answer.Read v t n)) = Reports most taken n
+Answers most taken (Ok (Answer.Written n)) = Reports most taken n
+Answers most taken (Ok (Answer.Asked t n)) = Reports most taken n
+Answers most taken (Err r) = Unit {0}
 
 -- Each operation ends once: a step of a process that is doing nothing is never accepted.
-abbrev pub Refuses : Answer → Type 0
-Refuses Answer.Begun = ⊥
-Refuses Answer.Going = ⊥
-Refuses (Answer.Read v t n) = ⊥
-Refuses (Answer.Written n) = ⊥
-Refuses (Answer.Asked t n) = ⊥
-Refuses (Answer.Refused r) = Unit {0}
+abbrev pub Refuses : Response → Type 0
+Refuses (Ok Answer.Begun) = ⊥
+Refuses (Ok Answer.Going) = ⊥
+Refuses (Ok (Answer.Read v t n)) = ⊥
+Refuses (Ok (Answer.Written n)) = ⊥
+Refuses (Ok (Answer.Asked t n)) = ⊥
+Refuses (Err r) = Unit {0}
 
-abbrev pub Counts : Doing → Answer → Type 0
+abbrev pub Counts : Doing → Response → Type 0
 Counts nothing x = Refuses x
 Counts (busy began o i taken) x = Answers (most_steps o) (suc taken) x
 

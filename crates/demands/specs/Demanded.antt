@@ -1,11 +1,11 @@
 -- All that is demanded of a machine: demand 1, the step list, and of every run from an accepted opening the rest.
 -- Assumes nothing.
-use Rattle.std.specs.Prelude.{◌≡◌, ◌≢◌, Bool, true, false, not, List, [], ◌∷◌, ltb}
+use Rattle.std.specs.Prelude.{◌≡◌, ◌≢◌, Bool, true, false, not, List, [], ◌∷◌, ltb, Err}
 use Rattle.numbers.specs.Numbers.{fill_of}
 use Rattle.numbers.specs.Cells.{cell_fits}
 use Rattle.refusals.specs.Orders.{◌gives◌, orders}
 use Rattle.acts.specs.Worlds.{Machine, Call, begin, step, misfit, answer_to, Accepted, opened_world}
-use Rattle.demands.specs.Types.{Refusal, Terms, State, Memory, Ask, Answer}
+use Rattle.demands.specs.Types.{Refusal, Terms, State, Memory, Ask}
 use Rattle.demands.specs.Kinds.{Kind, writing}
 use Rattle.demands.specs.Book.{Doing, nothing, busy, Book, Run, run, start}
 use Rattle.demands.specs.Agrees.{Agrees}
@@ -40,7 +40,7 @@ module _ {S A : Type 0} (K : Kind S A) where
     pub pool_spent : PoolSpent z (K.grid r.world.state) r.book
     pub pool_suffices : PoolSuffices z (K.grid r.world.state)
     pub refusals : (c : Call A z) → said (answer_to M r.world c) ≡ expected r.book c
-    pub never_nine : (c : Call A z) → answer_to M r.world c ≢ Answer.Refused Refusal.OutOfRange
+    pub never_nine : (c : Call A z) → answer_to M r.world c ≢ Err Refusal.OutOfRange
 
   -- "Under the same terms": any numbers, any memory that open accepts, any calls.
   pub record DemandedOf (M : Machine S A) : Type 0 where

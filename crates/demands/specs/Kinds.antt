@@ -1,6 +1,6 @@
 -- A kind of array: its machine by its step list, and what the demands read off its states and asks.
 -- Assumes nothing.
-use Rattle.std.specs.Prelude.{ℕ}
+use Rattle.std.specs.Prelude.{ℕ, Option}
 use Rattle.acts.specs.Calls.{cell_of, turn_in}
 use Rattle.acts.specs.Worlds.{Machine, grid}
 use Rattle.theory.specs.Array as Array
@@ -15,7 +15,7 @@ pub record Kind (S A : Type 0) : Type 0 where
   -- of a state: its numbers and lanes
   pub grid : S → State
   -- what the step list says for the next step of process q
-  pub turn : S → ℕ → Memory → Turn
+  pub turn : S → ℕ → Memory → Option Turn
 
 -- Document 01's array: read, asked, write.
 abbrev pub ask_op : Ask → Array.Op

@@ -14,8 +14,6 @@ pub use Rattle.lanes.specs.declared.Op.TheVariants as Op
 pub use Rattle.lanes.specs.declared.Lane.{Lane}
 pub use Rattle.lanes.specs.declared.State.{State}
 pub use Rattle.steps.specs.Memory.{Memory}
-pub use Rattle.steps.specs.declared.Got.{Got}
-pub use Rattle.steps.specs.declared.Got.TheVariants as Got
 pub use Rattle.steps.specs.declared.Found.{Found}
 pub use Rattle.steps.specs.declared.Found.TheVariants as Found
 pub use Rattle.steps.specs.declared.Change.{Change}
@@ -23,14 +21,10 @@ pub use Rattle.steps.specs.declared.Change.TheVariants as Change
 pub use Rattle.steps.specs.declared.Next.{Next}
 pub use Rattle.steps.specs.declared.Next.TheVariants as Next
 pub use Rattle.steps.specs.declared.Turn.{Turn}
-pub use Rattle.steps.specs.declared.Turn.TheVariants as Turn
 pub use Rattle.acts.specs.declared.Ask.{Ask}
 pub use Rattle.acts.specs.declared.Ask.TheVariants as Ask
 pub use Rattle.acts.specs.declared.Answer.{Answer}
 pub use Rattle.acts.specs.declared.Answer.TheVariants as Answer
-pub use Rattle.acts.specs.declared.Opening.{Opening}
-pub use Rattle.acts.specs.declared.Opening.TheVariants as Opening
 pub use Rattle.acts.specs.declared.Stepped.{Stepped}
 pub use Rattle.acts.specs.declared.Acted.{Acted}
-pub use Rattle.acts.specs.declared.Verdict.{Verdict}
-pub use Rattle.acts.specs.declared.Verdict.TheVariants as Verdict
+pub use Rattle.acts.specs.Calls.{Opening, Verdict, Response}

@@ -5,7 +5,7 @@ ghost use Rattle.std.specs.Prelude.{◌≡◌};
 ghost use Rattle.steps.specs.Memory.{memory};
 ghost use Rattle.acts.specs.Calls.{outcome, open_of, begin_of, step_of};
 
-use acts::{Ask, Opened, Opening, Stepped, begins, opens};
+use acts::{Ask, Opened, Stepped, begins, opens};
 use lanes::State;
 use numbers::{Mark, Process, Terms};
 
@@ -21,10 +21,9 @@ const CLOSED: Terms = Terms {
 pub fn open(z: Terms, readings: &[u32], links: &[u64], directory: &[u32], pool: &[Mark]) -> Opened
     ensures { result ≡ open_of z (memory readings.now links.now directory.now pool.now) }
 {
-    let is = opens::opening_of(z, readings, links, directory, pool);
-    match is {
-        Opening::Open => opens::opened(z, Opening::Open),
-        Opening::Refused(r) => opens::opened(CLOSED, Opening::Refused(r)),
+    match opens::opening_of(z, readings, links, directory, pool) {
+        Ok(()) => opens::opened(z, Ok(())),
+        Err(r) => opens::opened(CLOSED, Err(r)),
     }
 }
 
@@ -96,7 +95,7 @@ pub fn step(
         pool,
     );
     let answer = b.answer;
-    if begins::changes(answer) {
+    if answer.is_ok() {
         let lane = b.lane;
         t.top = b.top;
         t.lanes[k] = lane;

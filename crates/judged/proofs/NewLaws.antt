@@ -25,7 +25,7 @@ use Rattle.lanes.specs.Laws.{sized, lane_ok, cell_fits_lem, rest_fits_lem}
 use Rattle.steps.specs.declared.Change.{Change}
 use Rattle.steps.specs.declared.Next.{Next}
 use Rattle.steps.specs.declared.Found.{Found}
-use Rattle.steps.specs.declared.Got.{Got}
+use Rattle.std.specs.Prelude.{Option, None, Some}
 use Rattle.steps.specs.declared.Turn.{Turn}
 use Rattle.steps.specs.Memory.{Memory}
 use Rattle.steps.specs.Steps as Steps
@@ -36,11 +36,11 @@ use Rattle.judged.specs.Inner.{change_fits, marking_goes, op_goes, new_fits, Tol
 
 -- ---- what a check goes on with is in its ranges
 
-abbrev Okay : Terms → Found → Type 0
-Okay z Found.Outside = Unit {0}
-Okay z (Found.On c) = check_fits z c ≡ true
-Okay z (Found.NotWritten link) = Unit {0}
-Okay z Found.Written = Unit {0}
+abbrev Okay : Terms → Option Found → Type 0
+Okay z None = Unit {0}
+Okay z (Some (Found.On c)) = check_fits z c ≡ true
+Okay z (Some (Found.NotWritten link)) = Unit {0}
+Okay z (Some Found.Written) = Unit {0}
 
 module _ (z : Terms) (seen : ℕ) (low : seen ≤ most_marks z.m) where
   found_ok : (links directory pool : List ℕ) (i : Cell) (c : Check) → check_fits z c ≡ true
@@ -51,24 +51,24 @@ module _ (z : Terms) (seen : ℕ) (low : seen ≤ most_marks z.m) where
       w : ℕ
       w = get_or links (index_of z i) 0
 
-      by : (b : Bool) → ltb (process_of w) z.p ≡ b → Okay z (pick b (Found.On (Check.Marks w)) (Found.NotWritten w))
+      by : (b : Bool) → ltb (process_of w) z.p ≡ b → Okay z (Some (pick b (Found.On (Check.Marks w)) (Found.NotWritten w)))
       by true e = e
       by false e = tt
   found_ok links directory pool i (Check.Marks w) h = by (ltb (place_of w) seen) refl
     where
-      by : (b : Bool) → ltb (place_of w) seen ≡ b → Okay z (pick b (Found.On (Check.Directory w)) (Found.NotWritten w))
+      by : (b : Bool) → ltb (place_of w) seen ≡ b → Okay z (Some (pick b (Found.On (Check.Directory w)) (Found.NotWritten w)))
       by true e = let k = ltb-true (place_of w) seen e in rw h (le-leb (place_of w) (most_marks z.m) (omega arith))
       by false e = tt
   found_ok links directory pool i (Check.Directory w) h = h
   found_ok links directory pool i (Check.Mark start w) h = by (Steps.pool_word pool start (place_of w))
     where
-      at : (b : Bool) → Okay z (pick b Found.Written (Found.NotWritten w))
+      at : (b : Bool) → Okay z (Some (pick b Found.Written (Found.NotWritten w)))
       at true = tt
       at false = tt
 
-      by : (g : Got) → Okay z (Steps.check_mark (mark_of i) w g)
-      by Got.Outside = tt
-      by (Got.Word mark) = at (eqb mark (mark_of i))
+      by : (g : Option ℕ) → Okay z (Steps.check_mark (mark_of i) w g)
+      by None = tt
+      by (Some mark) = at (eqb mark (mark_of i))
 
 -- ---- the operation that a step goes on with
 
@@ -94,57 +94,60 @@ first_place : (q link : ℕ) (n : Place) → place_in (Steps.tombstone_first q l
 first_place q link n = picked (eqb link (link_of q n.0)) (Marking.Tombstone link n) (Marking.Mark link n) n refl refl
 
 module _ (z : Terms) (top q : ℕ) (l : Lane) (seen : ℕ) (mem : Memory) (ch : Change) (o : Op) where
-  abbrev Goes : Turn → Type 0
-  Goes t = t ≡ Turn.Turned ch (Next.Going o)
+  abbrev Goes : Option Turn → Type 0
+  Goes t = t ≡ Some (Steps.makes ch (Next.Going o))
 
   none : {A : Type 0} → ◌≡◌ {A = ℕ} 0 1 → A
   none h = absurd (omega arith)
 
-  to : (b : Bool) (u : Op) (d : Change) → Onward z b u → Goes (Turn.Turned d (Next.Going u)) → Onward z b o
-  to b u d h e = let f : u ≡ o = cc in rw (← f) h
+  next_is : (d : Change) (m : Next) → Goes (Some (Steps.makes d m)) → m ≡ Next.Going o
+  next_is d m e = let g : Steps.makes d m ≡ Steps.makes ch (Next.Going o) = cc in ap (λ (t : Turn). t.next) g
+
+  to : (b : Bool) (u : Op) (d : Change) → Onward z b u → Goes (Some (Steps.makes d (Next.Going u))) → Onward z b o
+  to b u d h e = let k = next_is d (Next.Going u) e in let f : u ≡ o = cc in rw (← f) h
 
   module _ (i : Cell) (here : cell_fits z i ≡ true) where
-    marks : (b : Bool) (k : Marking) (d : Change) → place_fits z (place_in k) ≡ b → Goes (Steps.marks d i k) → Onward z b o
+    marks : (b : Bool) (k : Marking) (d : Change) → place_fits z (place_in k) ≡ b → Goes (Some (Steps.marks d i k)) → Onward z b o
     marks b k d h e = to b (Op.Marking i k) d (record { busy = refl; cell = here; rest = h }) e
 
     -- a place that is in its range already
-    keeps : (k : Marking) (n : Place) (d : Change) → place_in k ≡ n → place_fits z n ≡ true → Goes (Steps.marks d i k) → Onward z true o
+    keeps : (k : Marking) (n : Place) (d : Change) → place_in k ≡ n → place_fits z n ≡ true → Goes (Some (Steps.marks d i k)) → Onward z true o
     keeps k n d at h e = marks true k d (ap (place_fits z) at ∙ h) e
 
-    reads : (f : Found) → Okay z f → Goes (Steps.read_turn z i f) → Onward z true o
-    reads Found.Outside h e = none cc
-    reads (Found.On c) h e = to true (Op.Read i c) Change.Nothing (record { busy = refl; cell = here; rest = h }) e
-    reads (Found.NotWritten w) h e = none cc
-    reads Found.Written h e = to true (Op.Reading i) Change.Nothing (record { busy = refl; cell = here; rest = refl }) e
+    reads : (f : Option Found) → Okay z f → Goes (Steps.read_turn z i f) → Onward z true o
+    reads None h e = none cc
+    reads (Some (Found.On c)) h e = to true (Op.Read i c) Change.Nothing (record { busy = refl; cell = here; rest = h }) e
+    reads (Some (Found.NotWritten w)) h e = let k = next_is Change.Nothing (Steps.not_written_read z i) e in none cc
+    reads (Some Found.Written) h e = to true (Op.Reading i) Change.Nothing (record { busy = refl; cell = here; rest = refl }) e
 
-    asks : (f : Found) → Okay z f → Goes (Steps.asked_turn i f) → Onward z true o
-    asks Found.Outside h e = none cc
-    asks (Found.On c) h e = to true (Op.Asked i c) Change.Nothing (record { busy = refl; cell = here; rest = h }) e
-    asks (Found.NotWritten w) h e = none cc
-    asks Found.Written h e = none cc
+    asks : (f : Option Found) → Okay z f → Goes (Steps.asked_turn i f) → Onward z true o
+    asks None h e = none cc
+    asks (Some (Found.On c)) h e = to true (Op.Asked i c) Change.Nothing (record { busy = refl; cell = here; rest = h }) e
+    asks (Some (Found.NotWritten w)) h e = let k = next_is Change.Nothing (Next.Asked false) e in none cc
+    asks (Some Found.Written) h e = let k = next_is Change.Nothing (Next.Asked true) e in none cc
 
     -- 3. The place is the lane's marks in force.
     at_marks : (w : ℕ) → place_in (Steps.marking_at q l w) ≡ record { 0 = l.marks }
     at_marks w = picked (ltb (segment_of l.marks) l.drawn) _ _ _ (first_place q w _) refl
 
-    checks : leb l.marks (most_marks z.m) ≡ true → (f : Found) → Okay z f → Goes (Steps.checked_turn q l i f) → Onward z true o
-    checks low Found.Outside h e = none cc
-    checks low (Found.On c) h e = to true (Op.Write i c) Change.Nothing (record { busy = refl; cell = here; rest = h }) e
-    checks low (Found.NotWritten w) h e = keeps (Steps.marking_at q l w) _ Change.Nothing (at_marks w) low e
-    checks low Found.Written h e = none cc
+    checks : leb l.marks (most_marks z.m) ≡ true → (f : Option Found) → Okay z f → Goes (Steps.checked_turn q l i f) → Onward z true o
+    checks low None h e = none cc
+    checks low (Some (Found.On c)) h e = to true (Op.Write i c) Change.Nothing (record { busy = refl; cell = here; rest = h }) e
+    checks low (Some (Found.NotWritten w)) h e = keeps (Steps.marking_at q l w) _ Change.Nothing (at_marks w) low e
+    checks low (Some Found.Written) h e = let k = next_is Change.Nothing Next.Written e in none cc
 
-    puts : (b : Bool) (start mark : ℕ) (n : Place) (k : Marking) (g : Got) → place_fits z (place_in k) ≡ b → Goes (Steps.stored start i n mark k g)
+    puts : (b : Bool) (start mark : ℕ) (n : Place) (k : Marking) (g : Option ℕ) → place_fits z (place_in k) ≡ b → Goes (Steps.stored start i n mark k g)
         → Onward z b o
-    puts b start mark n k Got.Outside h e = none cc
-    puts b start mark n k (Got.Word old) h e = marks b k (Change.Mark start n mark) h e
+    puts b start mark n k None h e = none cc
+    puts b start mark n k (Some old) h e = marks b k (Change.Mark start n mark) h e
 
     swaps : (b : Bool) (at : ℕ) (n : Place) → place_fits z n ≡ true
-        → Goes (pick b (Turn.Turned (Change.Link at (link_of q n.0)) Next.Written) (Steps.goes (Op.Marking i (Marking.TakeBack n))))
+        → Goes (Some (pick b (Steps.makes (Change.Link at (link_of q n.0)) Next.Written) (Steps.goes (Op.Marking i (Marking.TakeBack n)))))
         → Onward z true o
-    swaps true at n h e = none cc
+    swaps true at n h e = let k = next_is (Change.Link at (link_of q n.0)) Next.Written e in none cc
     swaps false at n h e = marks true (Marking.TakeBack n) Change.Nothing h e
 
-    abbrev word : Place → Got
+    abbrev word : Place → Option ℕ
     word n = Steps.pool_word mem.pool (Steps.start_of mem.directory q n.0) n.0
 
     -- 4. Then the next place.
@@ -160,7 +163,7 @@ module _ (z : Terms) (top q : ℕ) (l : Lane) (seen : ℕ) (mem : Memory) (ch : 
     markings (Marking.Mark w n) h e = puts true _ _ n _ (word n) h e
     markings (Marking.Force w n) h e = marks true _ _ h e
     markings (Marking.Swap w n) h e = swaps (eqb (get_or mem.links (index_of z i) 0) w) (index_of z i) n h e
-    markings (Marking.TakeBack n) h e = none cc
+    markings (Marking.TakeBack n) h e = let k = next_is (Change.Marks n.0) Next.Written e in none cc
 
   module _ (few : seen ≤ most_marks z.m) (low : leb l.marks (most_marks z.m) ≡ true) where
     found_in : (i : Cell) (c : Check) → check_fits z c ≡ true → Okay z (Steps.found z top q l (handed seen) mem i c)
@@ -170,7 +173,7 @@ module _ (z : Terms) (top q : ℕ) (l : Lane) (seen : ℕ) (mem : Memory) (ch : 
     goes_on Op.Idle n h e = none cc
     goes_on (Op.Read i c) n h e =
         reads i (cell_fits_lem z n (Op.Read i c) refl h) (Steps.found z top q l (handed seen) mem i c) (found_in i c (rest_fits_lem z n (Op.Read i c) refl h)) e
-    goes_on (Op.Reading i) n h e = none cc
+    goes_on (Op.Reading i) n h e = let k = next_is Change.Nothing (Steps.written_read z mem.readings i) e in none cc
     goes_on (Op.Asked i c) n h e =
         asks i (cell_fits_lem z n (Op.Asked i c) refl h) (Steps.found z top q l (handed seen) mem i c)
         (found_in i c (rest_fits_lem z n (Op.Asked i c) refl h)) e
@@ -213,13 +216,13 @@ module _ (z : Terms) (top : ℕ) (l : Lane) (sizes : sizes_fit z top ≡ true) (
       by (Change.Top raised n) = simp (marks_low) (and_assoc (leb raised (pool_words z.p z.m)) (leb n most_segments) b)
 
   -- for a turn of this lane the few tests come to all of them
-  pub told : (q seen : ℕ) (mem : Memory) (t : Turn) → seen ≤ most_marks z.m → t ≡ Steps.turn_of z top q l (handed seen) mem → Told z top l t
-  told q seen mem t few f ch nx e = by nx (sym f ∙ e)
+  pub told : (q seen : ℕ) (mem : Memory) (t : Option Turn) → seen ≤ most_marks z.m → t ≡ Steps.turn_of z top q l (handed seen) mem → Told z top l t
+  told q seen mem t few f u e = by u.next (sym f ∙ e)
     where
-      by : (nx : Next) → Steps.turn_of z top q l (handed seen) mem ≡ Turn.Turned ch nx → new_fits z l ch nx ≡ numbers_fit z top l ch nx
+      by : (nx : Next) → Steps.turn_of z top q l (handed seen) mem ≡ Some (Steps.makes u.change nx) → new_fits z l u.change nx ≡ numbers_fit z top l u.change nx
       by (Next.Going o) g =
-          let on = goes_on z top q l seen mem ch o few (le-leb _ _ (lane_ok z l fits).marks) l.op l.steps (lane_ok z l fits).op g in
-          counts ch (ltb l.steps most_steps && op_goes z l.op) ∙ rw (same_steps ch l, on.busy, one_more l.steps most_steps, on.cell, on.rest)
-      by (Next.Read v b) g = counts ch true
-      by Next.Written g = counts ch true
-      by (Next.Asked b) g = counts ch true
+          let on = goes_on z top q l seen mem u.change o few (le-leb _ _ (lane_ok z l fits).marks) l.op l.steps (lane_ok z l fits).op g in
+          counts u.change (ltb l.steps most_steps && op_goes z l.op) ∙ rw (same_steps u.change l, on.busy, one_more l.steps most_steps, on.cell, on.rest)
+      by (Next.Read v b) g = counts u.change true
+      by Next.Written g = counts u.change true
+      by (Next.Asked b) g = counts u.change true

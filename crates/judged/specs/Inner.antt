@@ -1,6 +1,6 @@
 -- What functions inside the crate lean on; no statement cites it.
 -- Assumes nothing.
-use Rattle.std.specs.Prelude.{ℕ, ◌≡◌, Bool, true, ◌&&◌, ltb, leb}
+use Rattle.std.specs.Prelude.{ℕ, ◌≡◌, Bool, true, ◌&&◌, Option, Some, Ok, ltb, leb}
 use Rattle.numbers.specs.Numbers.{most_segments, most_steps, most_marks, pool_words}
 use Rattle.numbers.specs.declared.Terms.{Terms}
 use Rattle.lanes.specs.declared.Marking.{Marking}
@@ -53,8 +53,8 @@ abbrev pub new_fits : Terms → Lane → Change → Next → Bool
 new_fits z l change next = change_fits z change && next_fits z l.steps l.op next
 
 -- So for a turn of such a lane those tests come to all of them.
-abbrev pub Told : Terms → ℕ → Lane → Turn → Type 0
-Told z top l t = (change : Change) (next : Next) → t ≡ Turn.Turned change next → new_fits z l change next ≡ numbers_fit z top l change next
+abbrev pub Told : Terms → ℕ → Lane → Option Turn → Type 0
+Told z top l t = (u : Turn) → t ≡ Some u → new_fits z l u.change u.next ≡ numbers_fit z top l u.change u.next
 
 abbrev pub moved_to : Lane → ℕ → Change → Next → Acted
-moved_to l top change next = record { lane = advance next (lane_after change l); top = top_after change top; answer = answer_of l.steps next }
+moved_to l top change next = record { lane = advance next (lane_after change l); top = top_after change top; answer = Ok (answer_of l.steps next) }

@@ -11,7 +11,7 @@ ghost use Rattle.acts.specs.Calls.{advance, answer_of, decided, verdict_of, effe
 ghost use Rattle.acts.specs.Inner.{named_in, named, Judged};
 ghost use Rattle.judged.specs.Inner.{change_fits, marking_goes, op_goes, next_fits, new_fits, Told, moved_to};
 
-use acts::{Acted, Answer, Verdict, begins, opens};
+use acts::{Acted, Answer, begins, opens};
 use lanes::{Check, Lane, Marking, Op};
 use numbers::{Mark, Process, SEGMENTS, STEPS, Terms};
 use refusals::Refusal;
@@ -21,10 +21,8 @@ fn named_in(c: Check) -> Process
     ensures { result.0 ≡ named_in c }
 {
     match c {
-        Check::Link => Process(0),
         Check::Marks(w) => numbers::process_of(w),
-        Check::Directory(_) => Process(0),
-        Check::Mark(_, _) => Process(0),
+        _ => Process(0),
     }
 }
 
@@ -33,38 +31,18 @@ pub fn named(o: Op) -> Process
     ensures { result.0 ≡ named o }
 {
     match o {
-        Op::Idle => Process(0),
-        Op::Read(_, c) => named_in(c),
-        Op::Reading(_) => Process(0),
-        Op::Asked(_, c) => named_in(c),
-        Op::Store(_, _) => Process(0),
-        Op::Write(_, c) => named_in(c),
-        Op::Marking(_, _) => Process(0),
+        Op::Read(_, c) | Op::Asked(_, c) | Op::Write(_, c) => named_in(c),
+        _ => Process(0),
     }
 }
 
 fn lane_after(l: Lane, change: Change) -> Lane
     ensures { result ≡ lane_after change l }
 {
-    let o = l.op;
     match change {
-        Change::Nothing => l,
-        Change::Reading(_, _) => l,
-        Change::Link(_, _) => l,
-        Change::Directory(_, _) => l,
-        Change::Mark(_, _, _) => l,
-        Change::Marks(n) => Lane {
-            marks: n,
-            drawn: l.drawn,
-            steps: l.steps,
-            op: o,
-        },
-        Change::Top(_, n) => Lane {
-            marks: l.marks,
-            drawn: n,
-            steps: l.steps,
-            op: o,
-        },
+        Change::Marks(n) => Lane { marks: n, ..l },
+        Change::Top(_, n) => Lane { drawn: n, ..l },
+        _ => l,
     }
 }
 
@@ -72,24 +50,8 @@ fn top_after(top: u32, change: Change) -> u32
     ensures { result ≡ top_after change top }
 {
     match change {
-        Change::Nothing => top,
-        Change::Reading(_, _) => top,
-        Change::Link(_, _) => top,
-        Change::Directory(_, _) => top,
-        Change::Mark(_, _, _) => top,
-        Change::Marks(_) => top,
         Change::Top(n, _) => n,
-    }
-}
-
-fn with_op(l: Lane, steps: u8, o: Op) -> Lane
-    ensures { result ≡ record { marks = l.marks; drawn = l.drawn; steps = steps; op = o } }
-{
-    Lane {
-        marks: l.marks,
-        drawn: l.drawn,
-        steps: steps,
-        op: o,
+        _ => top,
     }
 }
 
@@ -98,10 +60,16 @@ fn advance(l: Lane, next: Next) -> Lane
     ensures { result ≡ advance next l }
 {
     match next {
-        Next::Going(o) => with_op(l, l.steps + 1, o),
-        Next::Read(_, _) => with_op(l, 0, Op::Idle),
-        Next::Written => with_op(l, 0, Op::Idle),
-        Next::Asked(_) => with_op(l, 0, Op::Idle),
+        Next::Going(op) => Lane {
+            steps: l.steps + 1,
+            op,
+            ..l
+        },
+        _ => Lane {
+            steps: 0,
+            op: Op::Idle,
+            ..l
+        },
     }
 }
 
@@ -121,89 +89,50 @@ fn change_fits(z: Terms, change: Change) -> bool
     ensures { result ≡ change_fits z change }
 {
     match change {
-        Change::Nothing => true,
-        Change::Reading(_, _) => true,
-        Change::Link(_, _) => true,
-        Change::Directory(_, _) => true,
-        Change::Mark(_, _, _) => true,
         Change::Marks(n) => n as usize <= numbers::most_marks(z.m),
         Change::Top(top, n) => {
-            if top as usize <= numbers::pool_words(z.p, z.m) {
-                n as u32 <= SEGMENTS
-            } else {
-                false
-            }
+            top as usize <= numbers::pool_words(z.p, z.m) && n as u32 <= SEGMENTS
         }
+        _ => true,
     }
 }
 
 // Whether the place of the marking that a step goes on with is in its range: only after a tombstone is it another one.
-fn marking_goes(z: Terms, k: Marking) -> bool
-    ensures { result ≡ marking_goes z k }
-{
-    match k {
-        Marking::Draw(_, _, _) => true,
-        Marking::Enter(_, _, _, _) => true,
-        Marking::Tombstone(_, n) => (n.0 as usize) < numbers::most_marks(z.m),
-        Marking::Mark(_, _) => true,
-        Marking::Force(_, _) => true,
-        Marking::Swap(_, _) => true,
-        Marking::TakeBack(_) => true,
-    }
-}
-
 fn op_goes(z: Terms, o: Op) -> bool
     ensures { result ≡ op_goes z o }
 {
     match o {
-        Op::Idle => true,
-        Op::Read(_, _) => true,
-        Op::Reading(_) => true,
-        Op::Asked(_, _) => true,
-        Op::Store(_, _) => true,
-        Op::Write(_, _) => true,
-        Op::Marking(_, k) => marking_goes(z, k),
+        Op::Marking(_, Marking::Tombstone(_, n)) => (n.0 as usize) < numbers::most_marks(z.m),
+        _ => true,
     }
 }
 
-fn next_fits(z: Terms, steps: u8, o: Op, next: Next) -> bool
-    ensures { result ≡ next_fits z steps o next }
+fn next_fits(z: Terms, l: Lane, next: Next) -> bool
+    ensures { result ≡ next_fits z l.steps l.op next }
 {
     match next {
-        Next::Going(_) => { if steps < STEPS { op_goes(z, o) } else { false } }
-        Next::Read(_, _) => true,
-        Next::Written => true,
-        Next::Asked(_) => true,
+        Next::Going(_) => l.steps < STEPS && op_goes(z, l.op),
+        _ => true,
     }
 }
 
 // Whether the numbers that a step can put outside their ranges stay there. The new lane is not looked at whole: the step took
 // the rest of it over.
-fn new_fits(z: Terms, l: Lane, change: Change, next: Next) -> bool
-    ensures { result ≡ new_fits z l change next }
+fn new_fits(z: Terms, l: Lane, t: Turn) -> bool
+    ensures { result ≡ new_fits z l t.change t.next }
 {
-    let o = l.op;
-    if change_fits(z, change) {
-        next_fits(z, l.steps, o, next)
-    } else {
-        false
-    }
+    change_fits(z, t.change) && next_fits(z, l, t.next)
 }
 
-fn decided(z: Terms, top: u32, l: Lane, t: Turn) -> Verdict
+fn decided(z: Terms, top: u32, l: Lane, t: Option<Turn>) -> Result<Turn, Refusal>
     requires { Told z top l t }
     ensures { result ≡ decided z top l t }
 {
-    match t {
-        Turn::Outside => Verdict::Refused(Refusal::OutOfRange),
-        Turn::Turned(change, next) => {
-            if new_fits(z, l, change, next) {
-                Verdict::Moved(change, next)
-            } else {
-                Verdict::Refused(Refusal::OutOfRange)
-            }
-        }
+    let turn = t.ok_or(Refusal::OutOfRange)?;
+    if !new_fits(z, l, turn) {
+        return Err(Refusal::OutOfRange);
     }
+    Ok(turn)
 }
 
 // The refusals of a step in their order; `fits` says whether the state's numbers are in their ranges.
@@ -218,38 +147,35 @@ fn verdict_of(
     links: &[u64],
     directory: &[u32],
     pool: &[Mark],
-) -> Verdict
+) -> Result<Turn, Refusal>
     requires { Judged fits z top q.0 l seen }
     ensures { result ≡ verdict_of fits z top q.0 l (memory readings.now links.now directory.now pool.now)
         (turn_of z top q.0 l (handed seen) (memory readings.now links.now directory.now pool.now)) }
 {
     if !fits {
-        return Verdict::Refused(Refusal::OutOfRange);
+        return Err(Refusal::OutOfRange);
     }
     if !opens::lengths_fit(z, readings, links, directory, pool) {
-        return Verdict::Refused(Refusal::OtherLengths);
+        return Err(Refusal::OtherLengths);
     }
     if z.p <= q.0 {
-        return Verdict::Refused(Refusal::NoSuchProcess);
+        return Err(Refusal::NoSuchProcess);
     }
-    let o = l.op;
-    if lanes::idle(o) {
-        return Verdict::Refused(Refusal::NothingUnderWay);
+    if lanes::idle(l.op) {
+        return Err(Refusal::NothingUnderWay);
     }
     let t = turns::turn_of(z, top, q, l, seen, readings, links, directory, pool);
     decided(z, top, l, t)
 }
 
-fn moved(l: Lane, top: u32, change: Change, next: Next) -> Acted
+fn moved(l: Lane, top: u32, t: Turn) -> Acted
     requires { l.steps ≤ most_steps }
-    ensures { result ≡ moved_to l top change next }
+    ensures { result ≡ moved_to l top t.change t.next }
 {
-    let after = advance(lane_after(l, change), next);
-    let reached = top_after(top, change);
     Acted {
-        lane: after,
-        top: reached,
-        answer: answer_of(l.steps, next),
+        lane: advance(lane_after(l, t.change), t.next),
+        top: top_after(top, t.change),
+        answer: Ok(answer_of(l.steps, t.next)),
     }
 }
 
@@ -271,12 +197,11 @@ pub fn act(
         ≡ act_of fits z top q.0 l (memory readings.old links.old directory.old pool.old)
         (turn_of z top q.0 l (handed seen) (memory readings.old links.old directory.old pool.old)) }
 {
-    let v = verdict_of(fits, z, top, q, l, seen, readings, links, directory, pool);
-    match v {
-        Verdict::Refused(r) => begins::refused(l, top, r),
-        Verdict::Moved(change, next) => {
-            steps::store::store(readings, links, directory, pool, change);
-            moved(l, top, change, next)
+    match verdict_of(fits, z, top, q, l, seen, readings, links, directory, pool) {
+        Err(r) => begins::refused(l, top, r),
+        Ok(t) => {
+            steps::store::store(readings, links, directory, pool, t.change);
+            moved(l, top, t)
         }
     }
 }

@@ -1,6 +1,6 @@
 -- The numbers, by computation.
 -- Assumes nothing.
-use Rattle.std.specs.Prelude.{ℕ, ◌≡◌, refl, ◌≢◌, List}
+use Rattle.std.specs.Prelude.{ℕ, ◌≡◌, refl, ◌≢◌, List, Ok, Err, Option, None, Some}
 use Rattle.std.proofs.Common.{ap, arith}
 use Rattle.refusals.specs.declared.Refusal.{Refusal}
 use Rattle.refusals.specs.Orders.{Rule, orders}
@@ -12,8 +12,8 @@ use Rattle.steps.specs.declared.Turn.{Turn}
 use Rattle.steps.specs.Memory.{Memory}
 use Rattle.acts.specs.declared.Acted.{Acted}
 use Rattle.acts.specs.declared.Answer.{Answer}
-use Rattle.acts.specs.declared.Opening.{Opening}
-use Rattle.acts.specs.declared.Verdict.{Verdict}
+use Rattle.acts.specs.Calls.{Opening, Response}
+use Rattle.acts.specs.Calls.{Verdict}
 use Rattle.acts.specs.Calls as Grid
 use Rattle.summary.specs.declared.Summary.TheVariants as Summary
 use Rattle.summary.specs.Summary.{summary_of}
@@ -36,38 +36,30 @@ as_told refuse rules work numbers e k = in_order (λ x. x) refuse rules work num
 no : ◌≡◌ {A = ℕ} 0 1 → ⊥
 no h = omega arith
 
--- What a step answers that moves is no refusal.
-answered : (n : ℕ) (next : Next) (r : Refusal) → Grid.answer_of n next ≢ Answer.Refused r
-answered n (Next.Going o) r e = no cc
-answered n (Next.Read v b) r e = no cc
-answered n Next.Written r e = no cc
-answered n (Next.Asked b) r e = no cc
-
 -- What a step answers whose verdict is v; the order of a step, whatever its turn. (One outside is refused with the last 9, so that it
 -- matters not what it would come to.)
 module _ (s : State) (q : ℕ) (mem : Memory) where
-  abbrev answers : Verdict → Answer
+  abbrev answers : Verdict → Response
   answers v = (Grid.effect_of (lane_of s q) s.top mem v).acted.answer
 
-  steps_by : (t : Turn) (numbers : List ℕ) → numbers_of (rules_by s q mem t) ≡ numbers
-      → InOrder Answer.Refused (Grid.step_by s q mem t).stepped.answer (rules_by s q mem t) numbers
+  steps_by : (t : Option Turn) (numbers : List ℕ) → numbers_of (rules_by s q mem t) ≡ numbers
+      → InOrder Err (Grid.step_by s q mem t).stepped.answer (rules_by s q mem t) numbers
   unfolding Grid.verdict_of
-  steps_by Turn.Outside numbers e = record {
-    work = Answer.Going;
+  steps_by None numbers e = record {
+    work = Ok Answer.Going;
     works = λ r k. no cc;
-    first = orders_then answers Verdict.Refused (step_told s q mem) (Verdict.Refused Refusal.OutOfRange);
+    first = orders_then answers Err (step_told s q mem) (Err Refusal.OutOfRange);
     numbered = e;
   }
-  steps_by (Turn.Turned change next) numbers e =
-      in_order answers Verdict.Refused _ (Verdict.Moved change next) numbers e (answered (lane_of s q).steps next)
+  steps_by (Some t) numbers e = in_order answers Err _ (Ok t) numbers e (λ r k. no cc)
 
 pub the_orders : Orders
 unfolding Grid.opening_of Grid.begun_of summary_of Text.write_of read_in read_of Writer.write_of
 the_orders = record {
-  opens = λ z mem. in_order (λ (o : Opening). (Grid.opened_as z o).opening) Opening.Refused _ _ _ refl (λ r e. no cc);
+  opens = λ z mem. in_order (λ (o : Opening). (Grid.opened_as z o).opening) Err _ _ _ refl (λ r e. no cc);
   begins = λ s q a. in_order (λ (b : Acted). b.answer) (Grid.refused_as (lane_of s q) s.top) _ _ _ refl (λ r e. no cc);
   steps = λ s q mem. steps_by s q mem (Grid.turn_in s q mem) _ refl;
-  summary = λ s h mem. as_told Summary.Refused _ _ _ refl (λ r e. no cc);
+  summary = λ s h mem. as_told Err _ _ _ refl (λ r e. no cc);
   text = λ s mem out. as_told (Text.nothing_written out) _ _ _ refl (λ r e. let a = ap (λ (x : Text.Page). x.answer) e in no cc);
   reads = λ bytes. as_told Reading.Refused _ _ _ refl (λ r e. no cc);
   writes = λ h f out. as_told (Writer.nothing_written out) _ _ _ refl (λ r e. let a = ap (λ (x : Writer.Page). x.answer) e in no cc);

@@ -1,7 +1,7 @@
 -- The papers' orders of refusals, call by call: the numbers of the very rules that the promise of each call cites. A call more is a
 -- field.
 -- Assumes nothing.
-use Rattle.std.specs.Prelude.{ℕ, ◌≡◌, ◌≢◌, List, [], ◌∷◌, ◌++◌}
+use Rattle.std.specs.Prelude.{ℕ, ◌≡◌, ◌≢◌, List, [], ◌∷◌, ◌++◌, Err, Option}
 use Rattle.numbers.specs.declared.Terms.{Terms}
 use Rattle.refusals.specs.declared.Refusal.{Refusal}
 use Rattle.refusals.specs.Numbers.{number_of}
@@ -12,7 +12,6 @@ use Rattle.steps.specs.declared.Turn.{Turn}
 use Rattle.steps.specs.Memory.{Memory}
 use Rattle.acts.specs.declared.Ask.{Ask}
 use Rattle.acts.specs.declared.Answer.TheVariants as Answer
-use Rattle.acts.specs.declared.Opening.TheVariants as Opening
 use Rattle.acts.specs.Calls as Grid
 use Rattle.summary.specs.declared.Summary.TheVariants as Summary
 use Rattle.summary.specs.Summary.{summary_refusals, summary_of}
@@ -41,7 +40,7 @@ abbrev pub step_told : State → ℕ → Memory → List Rule
 step_told s q mem = Grid.step_refusals (state_fits s) s.terms mem q (lane_of s q)
 
 -- The last 9 of a step is of the word, the draw or the new number that its turn asks for.
-abbrev pub rules_by : State → ℕ → Memory → Turn → List Rule
+abbrev pub rules_by : State → ℕ → Memory → Option Turn → List Rule
 rules_by s q mem t = step_told s q mem ++ Grid.turn_refusals s.terms s.top (lane_of s q) t
 
 abbrev pub step_rules : State → ℕ → Memory → List Rule
@@ -49,12 +48,12 @@ step_rules s q mem = rules_by s q mem (Grid.turn_in s q mem)
 
 pub record Orders : Type 0 where
   -- "Open: 1, 2, 3.
-  pub opens : (z : Terms) (mem : Memory) → InOrder Opening.Refused (Grid.open_of z mem).opening (Grid.open_refusals z mem) (1 ∷ 2 ∷ 3 ∷ [])
+  pub opens : (z : Terms) (mem : Memory) → InOrder Err (Grid.open_of z mem).opening (Grid.open_refusals z mem) (1 ∷ 2 ∷ 3 ∷ [])
   -- Begin: 9 (state), 4, 6, 5.
-  pub begins : (s : State) (q : ℕ) (a : Ask) → InOrder Answer.Refused (Grid.begin_of s q a).answer (begin_rules s q a) (9 ∷ 4 ∷ 6 ∷ 5 ∷ [])
+  pub begins : (s : State) (q : ℕ) (a : Ask) → InOrder Err (Grid.begin_of s q a).answer (begin_rules s q a) (9 ∷ 4 ∷ 6 ∷ 5 ∷ [])
   -- Step: 9 (state), 8, 4, 7, 9 (word, draw or new number).
   pub steps : (s : State) (q : ℕ) (mem : Memory)
-      → InOrder Answer.Refused (Grid.step_of s q mem).stepped.answer (step_rules s q mem) (9 ∷ 8 ∷ 4 ∷ 7 ∷ 9 ∷ [])
+      → InOrder Err (Grid.step_of s q mem).stepped.answer (step_rules s q mem) (9 ∷ 8 ∷ 4 ∷ 7 ∷ 9 ∷ [])
   -- Hour summary: 9 (state), 8, 10, 5, 9 (word)", and W4's 18, last.
   pub summary : (s : State) (h : ℕ) (mem : Memory)
       → InOrder Summary.Refused (summary_of s h mem) (summary_refusals s h mem) (9 ∷ 8 ∷ 10 ∷ 5 ∷ 9 ∷ 18 ∷ [])

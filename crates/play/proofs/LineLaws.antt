@@ -17,6 +17,7 @@ use Rattle.byte_lists.specs.Places.{put_end, splice_none, splice_length, splice_
 use Rattle.byte_lists.specs.Decimals.{decimal_short}
 use Rattle.play.specs.Play.{line_at, lines_to, line_room}
 use Rattle.play.specs.Inner.{word_lines, Shown, Room, Listed}
+use Rattle.acts.specs.Calls.{Response}
 
 module _ (out : List ℕ) (at : ℕ) where
   pub shown_none : Shown 0 out at [] out at
@@ -47,7 +48,7 @@ pub lines_start : (first : ℕ) (words out : List ℕ) (at : ℕ) → Shown 0 ou
 unfolding word_lines
 lines_start first words out at = shown_none out at
 
-pub lines_next : (first c i : ℕ) (words out₀ : List ℕ) (at₀ : ℕ) (out : List ℕ) (at : ℕ) (a : Answer) (p : Put) (out' : List ℕ)
+pub lines_next : (first c i : ℕ) (words out₀ : List ℕ) (at₀ : ℕ) (out : List ℕ) (at : ℕ) (a : Response) (p : Put) (out' : List ℕ)
     (at' : ℕ) → Room first c words at₀ out₀ → i < c
     → Shown i out₀ at₀ (word_lines first words i) out at → a ≡ answer_of (get_or words i 0) → placed p out' ≡ put_of out at (answer_line (first + i) a)
     → length (answer_line (first + i) a) ≤ length (decimal (first + i)) + 23 → at' ≡ end_of p

@@ -1,7 +1,7 @@
 -- The theorems: for all bytes of a file, what each program prints is what a run of the grid answers.
 -- Assumes nothing.
 use Prim.Native.Nat.{ℕ, zero, suc, ◌≤◌}
-use Rattle.std.specs.Prelude.{◌≡◌, Bool, true, false, not, ◌≢◌, ltb, eqb, length}
+use Rattle.std.specs.Prelude.{◌≡◌, Bool, true, false, not, ◌≢◌, ltb, eqb, length, Err}
 use Rattle.std.proofs.Math.Path.{refl, ap}
 use Rattle.std.proofs.Common.{sym, ◌∙◌, arith}
 use mathlib.Core.List.{List, ◌++◌}
@@ -25,7 +25,7 @@ use Rattle.play.specs.Play.{filled, ask_of, call_of, calls, after, lines_to, sch
 use Rattle.play.specs.Fold.{after_calls_lem, answer_call}
 use Rattle.play.proofs.Opens as Opens
 use Rattle.sheet.specs.Sheet.{shown, shown_of, left, sheet_as, sheet_of}
-use Rattle.demands.specs.Types.{Refusal, Terms, State, Memory, Answer}
+use Rattle.demands.specs.Types.{Refusal, Terms, State, Memory, Answer, Response}
 use Rattle.demands.specs.Kinds.{writing}
 use Rattle.demands.specs.Book.{Book, Run, start}
 use Rattle.demands.specs.Demand1.{Said, refused, begins, steps, said}
@@ -94,7 +94,7 @@ module _ (bytes : List ℕ) (h : Header) (mem : Memory) where
     met : (k : ℕ) → Meets writing grid z (run_of bytes h mem k)
     met k = demanded.runs z mem ok (calls z bytes k)
 
-    few : (k : ℕ) (r : Refusal) → 8 ≤ number_of r → answer_line k (answer_on bytes h mem k) ≢ answer_line k (Answer.Refused r)
+    few : (k : ℕ) (r : Refusal) → 8 ≤ number_of r → answer_line k (answer_on bytes h mem k) ≢ answer_line k (Err r)
     few k r high e =
         let is : said (answer_on bytes h mem k) ≡ refused r = ap said (line_refused k (answer_on bytes h mem k) r e) in
         let told = ap spoken (sym is ∙ (met k).refusals (call_on bytes h mem k)) in

@@ -1,6 +1,6 @@
 -- What the programs print is what runs of the grid answer: the statements.
 -- Assumes nothing.
-use Rattle.std.specs.Prelude.{ℕ, ◌≤◌, ◌≡◌, ◌≢◌, List, ◌++◌, length}
+use Rattle.std.specs.Prelude.{ℕ, ◌≤◌, ◌≡◌, ◌≢◌, List, ◌++◌, length, Err}
 use Rattle.lists.specs.Lists.{gathered}
 use Rattle.refusals.specs.Numbers.{number_of}
 use Rattle.refusals.specs.Orders.{orders}
@@ -13,7 +13,7 @@ use Rattle.byte_lists.specs.Bytes.{splice, Placed, placed, put_of}
 use Rattle.text.specs.Text.{answer_line, sizes_line, refused_line}
 use Rattle.play.specs.Play.{filled, call_of, calls, after, output_of}
 use Rattle.sheet.specs.Sheet.{sheet_of}
-use Rattle.demands.specs.Types.{Refusal, Terms, State, Memory, Ask, Answer}
+use Rattle.demands.specs.Types.{Refusal, Terms, State, Memory, Ask, Answer, Response}
 use Rattle.demands.specs.Kinds.{writing}
 use Rattle.demands.specs.Book.{Book, Run, run, start}
 use Rattle.demands.specs.Demand2.{OneOrder}
@@ -29,7 +29,7 @@ module _ (bytes : List ℕ) (h : Header) (mem : Memory) where
   abbrev pub call_on : ℕ → Call Ask (terms_of h)
   call_on k = call_of (terms_of h) (record_at bytes k)
 
-  abbrev pub answer_on : ℕ → Answer
+  abbrev pub answer_on : ℕ → Response
   answer_on k = answer_to grid (run_of k).world (call_on k)
 
 -- What `state_after` promises to leave is what a run leaves, in any memory that open accepts.
@@ -44,7 +44,7 @@ pub record Printed (bytes : List ℕ) (h : Header) (n : ℕ) : Type 0 where
   pub accepted : Accepted grid (terms_of h) (filled h)
   pub demanded : (k : ℕ) → Meets writing grid (terms_of h) (run_of bytes h (filled h) k)
   pub prints : output_of bytes ≡ sizes_line h.p h.m ++ gathered n (λ (k : ℕ). answer_line k (answer_on bytes h (filled h) k))
-  pub few : (k : ℕ) (r : Refusal) → 8 ≤ number_of r → answer_line k (answer_on bytes h (filled h) k) ≢ answer_line k (Answer.Refused r)
+  pub few : (k : ℕ) (r : Refusal) → 8 ≤ number_of r → answer_line k (answer_on bytes h (filled h) k) ≢ answer_line k (Err r)
 
 -- What the planners' program puts into its buffer, by the book and a text: `refused 10` with an operation under way, then `refused 17`
 -- if the text is longer than the buffer; else the text. 9 and 8 never occur.

@@ -1,5 +1,6 @@
 -- Each case of a look at a grid at rest, as a law of its definition.
 -- Assumes nothing.
+use Rattle.std.specs.Prelude.{Option, Some}
 use mathlib.Core.Path.{◌≡◌, refl, sym, ap, ◌∙◌}
 use mathlib.Core.Bool.{Bool, true, false, not, ◌&&◌}
 use mathlib.Core.List.{List}
@@ -27,51 +28,21 @@ use Rattle.quiet.specs.declared.Quarter.{Quarter}
 use Rattle.quiet.specs.declared.Scan.TheVariants as Scan
 use Rattle.quiet.specs.Quiet.{marks_at, onward, looked_at, quarter_of, reading_as, reading_at, at_rest, scan_of}
 
-pub marks_low : (s : State) (q : ℕ) → q < most_processes → marks_of s q ≡ marks_at s q
-marks_low s q h = simp (lt-ltb _ _ h)
-
-pub marks_none : (s : State) (q : ℕ) → most_processes ≤ q → 0 ≡ marks_at s q
-marks_none s q h = simp (le-ltb _ _ h)
-
-pub seen_arm : (s : State) (c d : Check) (r : ℕ) → c ≡ d → r ≡ marks_at s (named_in d) → r ≡ marks_at s (named_in c)
-seen_arm s c d r e h = rw e h
-
-pub seen_marks : (s : State) (c : Check) (w r : ℕ) (q : Process) → c ≡ Check.Marks w → q.0 ≡ process_of w → r ≡ marks_at s q.0 → r ≡ marks_at s (named_in c)
-seen_marks s c w r q e f h = rw e (h ∙ ap (marks_at s) f)
-
-module _ (s : State) (i : Cell) (links directory pool : List ℕ) (f : Found) (r : Found) where
-  pub onward_arm : (g : Found) → f ≡ g → r ≡ onward s i links directory pool g → r ≡ onward s i links directory pool f
-  onward_arm g e h = rw e h
-
-  pub onward_on : (c : Check) (seen : ℕ) → f ≡ Found.On c → seen ≡ marks_at s (named_in c)
+module _ (s : State) (i : Cell) (links directory pool : List ℕ) (f : Option Found) (g : Found) (r : Option Found) where
+  pub onward_on : (c : Check) (seen : ℕ) → f ≡ Some g → g ≡ Found.On c → seen ≡ marks_at s (named_in c)
       → r ≡ check s.terms (handed seen) links directory pool i c → r ≡ onward s i links directory pool f
-  onward_on c seen e g h =
-      rw e
+  onward_on c seen e k l h =
+      rw (e, k)
       (h
-      ∙ ap (λ (x : ℕ). check s.terms (handed x) links directory pool i c) g
+      ∙ ap (λ (x : ℕ). check s.terms (handed x) links directory pool i c) l
       ∙ handed_check s.terms (marks_at s) links directory pool i c)
 
-pub looked_is : (s : State) (i : Cell) (links directory pool : List ℕ) (a b c d : Found) → a ≡ onward s i links directory pool (Found.On Check.Link)
+pub looked_is : (s : State) (i : Cell) (links directory pool : List ℕ) (a b c d : Option Found) → a ≡ onward s i links directory pool (Some (Found.On Check.Link))
     → b ≡ onward s i links directory pool a → c ≡ onward s i links directory pool b → d ≡ onward s i links directory pool c
     → d ≡ looked_at s i links directory pool
 unfolding looked_at
 looked_is s i links directory pool a b c d e f g h =
     h ∙ ap (onward s i links directory pool) (g ∙ ap (onward s i links directory pool) (f ∙ ap (onward s i links directory pool) e))
-
-pub quarter_read : (n : Next) (v : ℕ) (b : Bool) → n ≡ Next.Read v b → Quarter.Read v b ≡ quarter_of n
-quarter_read n v b e = rw e
-
-module _ (s : State) (i : Cell) (readings : List ℕ) (f : Found) where
-  pub filled : (w : ℕ) (n : Next) (r : Quarter) → f ≡ Found.NotWritten w → n ≡ not_written_read s.terms i → r ≡ quarter_of n
-      → r ≡ reading_as s i readings f
-  filled w n r e h k = rw e (k ∙ ap quarter_of h)
-
-  pub held : (n : Next) (r : Quarter) → f ≡ Found.Written → n ≡ written_read s.terms readings i → r ≡ quarter_of n → r ≡ reading_as s i readings f
-  held n r e h k = rw e (k ∙ ap quarter_of h)
-
-pub reading_is : (s : State) (i : Cell) (mem : Memory) (f : Found) (r : Quarter) → f ≡ looked_at s i mem.links mem.directory mem.pool
-    → r ≡ reading_as s i mem.readings f → r ≡ reading_at s i mem
-reading_is s i mem f r e h = h ∙ ap (reading_as s i mem.readings) e
 
 -- the lanes below i are at rest
 abbrev pub Calm : State → ℕ → Bool → Type 0

@@ -1,6 +1,6 @@
 -- A grid at rest: no operation under way, and each cell's check run to its end at once.
 -- Assumes nothing.
-use Rattle.std.specs.Prelude.{ℕ, Bool, true, false, List, ltb}
+use Rattle.std.specs.Prelude.{ℕ, Bool, true, false, List, ltb, Option, None, Some}
 use Rattle.numbers.specs.Numbers.{most_processes}
 use Rattle.numbers.specs.declared.Cell.{Cell}
 use Rattle.logic.specs.Below.{below}
@@ -39,31 +39,34 @@ abbrev pub marks_at : State → ℕ → ℕ
 marks_at s q = pick (ltb q most_processes) (marks_of s q) 0
 
 -- One more step of a check that has not ended.
-abbrev pub onward : State → Cell → List ℕ → List ℕ → List ℕ → Found → Found
-onward s i links directory pool Found.Outside = Found.Outside
-onward s i links directory pool (Found.On c) = check s.terms (marks_at s) links directory pool i c
-onward s i links directory pool (Found.NotWritten link) = Found.NotWritten link
-onward s i links directory pool Found.Written = Found.Written
+abbrev pub onward : State → Cell → List ℕ → List ℕ → List ℕ → Option Found → Option Found
+onward s i links directory pool None = None
+onward s i links directory pool (Some (Found.On c)) = check s.terms (marks_at s) links directory pool i c
+onward s i links directory pool (Some (Found.NotWritten link)) = Some (Found.NotWritten link)
+onward s i links directory pool (Some Found.Written) = (Some Found.Written)
 
 -- The check of cell i, run to its end: four steps at the most.
-unfoldable pub looked_at : State → Cell → List ℕ → List ℕ → List ℕ → Found
+unfoldable pub looked_at : State → Cell → List ℕ → List ℕ → List ℕ → Option Found
 looked_at s i links directory pool =
     onward s i links directory pool
-    (onward s i links directory pool (onward s i links directory pool (onward s i links directory pool (Found.On Check.Link))))
+    (onward s i links directory pool (onward s i links directory pool (onward s i links directory pool (Some (Found.On Check.Link)))))
 
--- What a read answers is what is read of its cell.
-abbrev pub quarter_of : Next → Quarter
-quarter_of (Next.Going o) = Quarter.Outside
-quarter_of (Next.Read v b) = Quarter.Read v b
-quarter_of Next.Written = Quarter.Outside
-quarter_of (Next.Asked b) = Quarter.Outside
+-- What a read answers is what is read of its cell; none where a word of its check lies outside its memory.
+abbrev pub shown : ℕ → Bool → Quarter
+shown v b = record { reading = v; written = b }
+
+abbrev pub quarter_of : Next → Option Quarter
+quarter_of (Next.Going o) = None
+quarter_of (Next.Read v b) = Some (shown v b)
+quarter_of Next.Written = None
+quarter_of (Next.Asked b) = None
 
 -- The read of cell i, run to its end: the answers are the read's own. No check is still on after four steps.
-abbrev pub reading_as : State → Cell → List ℕ → Found → Quarter
-reading_as s i readings Found.Outside = Quarter.Outside
-reading_as s i readings (Found.On c) = Quarter.Outside
-reading_as s i readings (Found.NotWritten link) = quarter_of (not_written_read s.terms i)
-reading_as s i readings Found.Written = quarter_of (written_read s.terms readings i)
+abbrev pub reading_as : State → Cell → List ℕ → Option Found → Option Quarter
+reading_as s i readings None = None
+reading_as s i readings (Some (Found.On c)) = None
+reading_as s i readings (Some (Found.NotWritten link)) = quarter_of (not_written_read s.terms i)
+reading_as s i readings (Some Found.Written) = quarter_of (written_read s.terms readings i)
 
-abbrev pub reading_at : State → Cell → Memory → Quarter
+abbrev pub reading_at : State → Cell → Memory → Option Quarter
 reading_at s i mem = reading_as s i mem.readings (looked_at s i mem.links mem.directory mem.pool)

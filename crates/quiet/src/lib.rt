@@ -21,13 +21,11 @@ pub enum Scan {
     AtRest,
 }
 
-// What is read of a cell.
+// What is read of a cell: its reading, and whether it is written. (By the filling rule it has a reading either way.)
 #[derive(Clone, Copy)]
-pub enum Quarter {
-    // A word of its check lies outside its memory.
-    Outside,
-    // Its reading, and whether it is written.
-    Read(u32, bool),
+pub struct Quarter {
+    pub reading: u32,
+    pub written: bool,
 }
 
 pub fn scan_of(s: State) -> Scan
@@ -51,23 +49,17 @@ pub fn scan_of(s: State) -> Scan
     if calm { Scan::AtRest } else { Scan::AtWork }
 }
 
-pub fn unfit(c: Scan) -> bool
-    ensures { result ≡ unfit c }
-{
-    match c {
-        Scan::Unfit => true,
-        Scan::AtWork => false,
-        Scan::AtRest => false,
+impl Scan {
+    pub fn is_unfit(self) -> bool
+        ensures { result ≡ unfit self }
+    {
+        matches!(self, Scan::Unfit)
     }
-}
 
-pub fn at_work(c: Scan) -> bool
-    ensures { result ≡ at_work c }
-{
-    match c {
-        Scan::Unfit => false,
-        Scan::AtWork => true,
-        Scan::AtRest => false,
+    pub fn is_at_work(self) -> bool
+        ensures { result ≡ at_work self }
+    {
+        matches!(self, Scan::AtWork)
     }
 }
 
@@ -89,58 +81,68 @@ fn seen_in(s: State, c: Check) -> u32
     ensures { result ≡ marks_at s (named_in c) }
 {
     match c {
-        Check::Link => marks_at(s, 0),
         Check::Marks(w) => marks_at(s, numbers::process_of(w).0),
-        Check::Directory(_) => marks_at(s, 0),
-        Check::Mark(_, _) => marks_at(s, 0),
+        _ => marks_at(s, 0),
     }
 }
 
 // One more step of a check that has not ended.
-fn onward(s: State, i: Cell, links: &[u64], directory: &[u32], pool: &[Mark], found: Found) -> Found
+fn onward(
+    s: State,
+    i: Cell,
+    links: &[u64],
+    directory: &[u32],
+    pool: &[Mark],
+    found: Option<Found>,
+) -> Option<Found>
     ensures { result ≡ onward s i links.now directory.now pool.now found }
 {
-    match found {
-        Found::Outside => Found::Outside,
+    match found? {
         Found::On(c) => steps::look::check(s.terms, seen_in(s, c), links, directory, pool, i, c),
-        Found::NotWritten(w) => Found::NotWritten(w),
-        Found::Written => Found::Written,
+        ended => Some(ended),
     }
 }
 
-// The check of cell i, run to its end: four steps at the most.
-pub fn looked_at(s: State, i: Cell, links: &[u64], directory: &[u32], pool: &[Mark]) -> Found
+// The check of cell i, run to its end: four steps at the most. None where a word of it lies outside its memory.
+pub fn looked_at(
+    s: State,
+    i: Cell,
+    links: &[u64],
+    directory: &[u32],
+    pool: &[Mark],
+) -> Option<Found>
     ensures { result ≡ looked_at s i links.now directory.now pool.now }
 {
-    let a = onward(s, i, links, directory, pool, Found::On(Check::Link));
+    let a = onward(s, i, links, directory, pool, Some(Found::On(Check::Link)));
     let b = onward(s, i, links, directory, pool, a);
     let c = onward(s, i, links, directory, pool, b);
     onward(s, i, links, directory, pool, c)
 }
 
-fn quarter_of(n: Next) -> Quarter
+fn quarter_of(n: Next) -> Option<Quarter>
     ensures { result ≡ quarter_of n }
 {
     match n {
-        Next::Going(_) => Quarter::Outside,
-        Next::Read(v, b) => Quarter::Read(v, b),
-        Next::Written => Quarter::Outside,
-        Next::Asked(_) => Quarter::Outside,
+        Next::Read(reading, written) => Some(Quarter {
+            reading,
+            written,
+        }),
+        _ => None,
     }
 }
 
-fn reading_as(s: State, i: Cell, readings: &[u32], found: Found) -> Quarter
+fn reading_as(s: State, i: Cell, readings: &[u32], found: Option<Found>) -> Option<Quarter>
     ensures { result ≡ reading_as s i readings.now found }
 {
-    match found {
-        Found::Outside => Quarter::Outside,
-        Found::On(_) => Quarter::Outside,
+    match found? {
+        Found::On(_) => None,
         Found::NotWritten(_) => quarter_of(steps::not_written_read(s.terms, i)),
         Found::Written => quarter_of(steps::written_read(s.terms, readings, i)),
     }
 }
 
-// The read of cell i, run to its end: by the filling rule where it is not written.
+// The read of cell i, run to its end: by the filling rule where it is not written. None where a word of its check lies outside its
+// memory.
 pub fn reading_at(
     s: State,
     i: Cell,
@@ -148,7 +150,7 @@ pub fn reading_at(
     links: &[u64],
     directory: &[u32],
     pool: &[Mark],
-) -> Quarter
+) -> Option<Quarter>
     ensures { result ≡ reading_at s i (memory readings.now links.now directory.now pool.now) }
 {
     let found = looked_at(s, i, links, directory, pool);

@@ -1,6 +1,6 @@
 -- In a good state with no operation under way: the proof's order is of finished operations, and each cell shows the array's value.
 -- Assumes nothing.
-use Rattle.std.specs.Prelude.{ℕ, ◌+◌, ◌<◌, ◌≡◌, refl, ◌≢◌, eqb, get_or}
+use Rattle.std.specs.Prelude.{ℕ, ◌+◌, ◌<◌, ◌≡◌, refl, ◌≢◌, eqb, get_or, Option, Some}
 use Rattle.std.proofs.Common.{sym, ap, ◌∙◌, subst, inl, arith, eq-eqb, ne_eqb}
 use mathlib.Core.List.{List, Memᴰ}
 use Rattle.std.proofs.Math.Decide.{dec_lt}
@@ -68,11 +68,11 @@ module _ {s : State} {mem : Memory} {b : Book} (H : Good s mem b) (rest : (q : �
     abbrev at : ℕ
     at = starts_in mem.directory r (segment_of n)
 
-    abbrev finds : Found
+    abbrev finds : Option Found
     finds = looked_at s cell mem.links mem.directory mem.pool
 
     -- a place in force: the check ends by its mark
-    in_force_lem : r < s.terms.p → n < (lane_of s r).marks → finds ≡ pick (eqb (H.marks r n) (mark_of cell)) Found.Written (Found.NotWritten link)
+    in_force_lem : r < s.terms.p → n < (lane_of s r).marks → finds ≡ Some (pick (eqb (H.marks r n) (mark_of cell)) Found.Written (Found.NotWritten link))
     in_force_lem hr hn =
         by_mark s cell mem.links mem.directory mem.pool hr H.bounds.p_high (H.marks r n) hn
         (omega (arith, H.lengths.pool, start, T.1.0))
@@ -84,20 +84,20 @@ module _ {s : State} {mem : Memory} {b : Book} (H : Good s mem b) (rest : (q : �
         start : start_of mem.directory r n ≡ at
         start = sym (pick_yes (dec_lt (segment_of n) most_segments) (start_of mem.directory r n) 0 T.0)
 
-    found_unwritten : (r < s.terms.p → n < (lane_of s r).marks → H.marks r n ≢ mark_of cell) → finds ≡ Found.NotWritten link
+    found_unwritten : (r < s.terms.p → n < (lane_of s r).marks → H.marks r n ≢ mark_of cell) → finds ≡ Some (Found.NotWritten link)
     found_unwritten other = by (dec_lt r s.terms.p) (dec_lt n (lane_of s r).marks)
       where
-        by : Dec (r < s.terms.p) → Dec (n < (lane_of s r).marks) → finds ≡ Found.NotWritten link
+        by : Dec (r < s.terms.p) → Dec (n < (lane_of s r).marks) → finds ≡ Some (Found.NotWritten link)
         by (no x) d = no_process s cell mem.links mem.directory mem.pool (omega arith)
         by (yes x) (no y) = not_in_force s cell mem.links mem.directory mem.pool x H.bounds.p_high (omega arith)
         by (yes x) (yes y) = in_force_lem x y ∙ rw (ne_eqb (H.marks r n) (mark_of cell) (other x y))
 
-    found_written : r < s.terms.p → n < (lane_of s r).marks → H.marks r n ≡ mark_of cell → finds ≡ Found.Written
+    found_written : r < s.terms.p → n < (lane_of s r).marks → H.marks r n ≡ mark_of cell → finds ≡ Some Found.Written
     found_written hr hn e = in_force_lem hr hn ∙ rw (eq-eqb (H.marks r n) (mark_of cell) e)
 
     tells_array : Theory.CellAtRest H.whole i → Tells finds (Theory.written_in order i)
-    tells_array (Theory.unwritten w v other) = subst (λ (f : Found). Tells f (Theory.written_in order i)) (sym (found_unwritten other)) w
-    tells_array (Theory.written w v hr hn e) = subst (λ (f : Found). Tells f (Theory.written_in order i)) (sym (found_written hr hn e)) w
+    tells_array (Theory.unwritten w v other) = subst (λ (f : Option Found). Tells f (Theory.written_in order i)) (sym (found_unwritten other)) w
+    tells_array (Theory.written w v hr hn e) = subst (λ (f : Option Found). Tells f (Theory.written_in order i)) (sym (found_written hr hn e)) w
 
     abbrev Reads : Type 0
     Reads = reading_at s cell mem ≡ Quarter.Read (Theory.value_in (filled s.terms) order i) (Theory.written_in order i)

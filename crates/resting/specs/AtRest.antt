@@ -1,7 +1,7 @@
 -- After any calls, with no operation under way: what is found of each cell is what the array of demand 2 holds in the end, and
 -- the hour summary is over exactly the cells that the array has a write of. With one under way the summary is refused with 10.
 -- Assumes nothing.
-use Rattle.std.specs.Prelude.{ℕ, ◌*◌, ◌/◌, ◌≤◌, ◌<◌, ◌≡◌, Bool, true, false, not, ◌⊎◌, ltb, eqb, length}
+use Rattle.std.specs.Prelude.{ℕ, ◌*◌, ◌/◌, ◌≤◌, ◌<◌, ◌≡◌, Bool, true, false, not, ◌⊎◌, ltb, eqb, length, Option, None, Some}
 use mathlib.Core.List.{List, [], ◌∷◌, Memᴰ}
 use Rattle.logic.specs.Pick.{pick}
 use Rattle.logic.specs.Below.{below}
@@ -30,14 +30,14 @@ abbrev pub UnderWay : Terms → Run State → Type 0
 UnderWay z r = (q : ℕ) × (q < z.p) × (is_busy (r.book.doing q) ≡ true)
 
 -- A check that has ended tells whether the cell is written.
-abbrev pub Tells : Found → Bool → Type 0
-Tells Found.Outside t = ⊥
-Tells (Found.On c) t = ⊥
-Tells (Found.NotWritten link) t = t ≡ false
-Tells Found.Written t = t ≡ true
+abbrev pub Tells : Option Found → Bool → Type 0
+Tells None t = ⊥
+Tells (Some (Found.On c)) t = ⊥
+Tells (Some (Found.NotWritten link)) t = t ≡ false
+Tells (Some Found.Written) t = t ≡ true
 
 -- Cell i, looked at after the run.
-abbrev pub looked : Run State → Cell → Found
+abbrev pub looked : Run State → Cell → Option Found
 looked r i = looked_at r.world.state i r.world.memory.links r.world.memory.directory r.world.memory.pool
 
 -- What the array holds at first.

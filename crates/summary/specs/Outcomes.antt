@@ -1,6 +1,6 @@
 -- The proofs of the claims.
 -- Assumes nothing.
-use Rattle.std.specs.Prelude.{ℕ, ◌*◌, ◌≡◌, refl, Bool, ◌&&◌, List, [], ◌∷◌}
+use Rattle.std.specs.Prelude.{ℕ, ◌*◌, ◌≡◌, refl, Bool, ◌&&◌, List, [], ◌∷◌, Option, None, Some}
 use Rattle.std.proofs.Common.{ap, ◌∙◌}
 use Rattle.numbers.specs.Cells.{cell_at}
 use Rattle.numbers.specs.declared.Cell.{Cell}
@@ -57,38 +57,38 @@ module _ (s : State) (first step : ℕ) (mem : Memory) where
       ap (λ (f : ℕ → Bool). pick (sizes_fit s.terms s.top && below s.terms.p f) (pick (at_rest s) Scan.AtRest Scan.AtWork) Scan.Unfit)
       (λ k q. same_lane s.terms first step (lane_of s q) k)
 
-  abbrev on : State → Cell → Found → Found
+  abbrev on : State → Cell → Option Found → Option Found
   on t i f = onward t i mem.links mem.directory mem.pool f
 
-  same_on : (i : Cell) (f : Found) → on other i f ≡ on s i f
-  same_on i Found.Outside = refl
-  same_on i (Found.On Check.Link) = refl
-  same_on i (Found.On (Check.Marks link)) = refl
-  same_on i (Found.On (Check.Directory link)) = refl
-  same_on i (Found.On (Check.Mark start link)) = refl
-  same_on i (Found.NotWritten link) = refl
-  same_on i Found.Written = refl
+  same_on : (i : Cell) (f : Option Found) → on other i f ≡ on s i f
+  same_on i None = refl
+  same_on i (Some (Found.On Check.Link)) = refl
+  same_on i (Some (Found.On (Check.Marks link))) = refl
+  same_on i (Some (Found.On (Check.Directory link))) = refl
+  same_on i (Some (Found.On (Check.Mark start link))) = refl
+  same_on i (Some (Found.NotWritten link)) = refl
+  same_on i (Some Found.Written) = refl
 
-  same_next : (i : Cell) (f g : Found) → f ≡ g → on other i f ≡ on s i g
+  same_next : (i : Cell) (f g : Option Found) → f ≡ g → on other i f ≡ on s i g
   same_next i f g e = ap (on other i) e ∙ same_on i g
 
   same_look : (i : Cell) → looked_at other i mem.links mem.directory mem.pool ≡ looked_at s i mem.links mem.directory mem.pool
   unfolding looked_at
-  same_look i = same_next i _ _ (same_next i _ _ (same_next i _ _ (same_on i (Found.On Check.Link))))
+  same_look i = same_next i _ _ (same_next i _ _ (same_next i _ _ (same_on i (Some (Found.On Check.Link)))))
 
-  same_outside : (i : Cell) (f : Found) → outside (reading_as other i mem.readings f) ≡ outside (reading_as s i mem.readings f)
-  same_outside i Found.Outside = refl
-  same_outside i (Found.On c) = refl
-  same_outside i (Found.NotWritten link) = refl
-  same_outside i Found.Written = refl
+  same_outside : (i : Cell) (f : Option Found) → outside (reading_as other i mem.readings f) ≡ outside (reading_as s i mem.readings f)
+  same_outside i None = refl
+  same_outside i (Some (Found.On c)) = refl
+  same_outside i (Some (Found.NotWritten link)) = refl
+  same_outside i (Some Found.Written) = refl
 
-  same_counted : (i : Cell) (f : Found) (vs : List ℕ) → counted (reading_as other i mem.readings f) vs ≡ counted (reading_as s i mem.readings f) vs
-  same_counted i Found.Outside vs = refl
-  same_counted i (Found.On c) vs = refl
-  same_counted i (Found.NotWritten link) vs = refl
-  same_counted i Found.Written vs = refl
+  same_counted : (i : Cell) (f : Option Found) (vs : List ℕ) → counted (reading_as other i mem.readings f) vs ≡ counted (reading_as s i mem.readings f) vs
+  same_counted i None vs = refl
+  same_counted i (Some (Found.On c)) vs = refl
+  same_counted i (Some (Found.NotWritten link)) vs = refl
+  same_counted i (Some Found.Written) vs = refl
 
-  abbrev found : Cell → Found
+  abbrev found : Cell → Option Found
   found i = looked_at s i mem.links mem.directory mem.pool
 
   any_same : (is : List ℕ) → any_outside (quarters other mem is) ≡ any_outside (quarters s mem is)

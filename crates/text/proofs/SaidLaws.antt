@@ -1,5 +1,6 @@
 -- The lines of the output from their words and numbers: none is cut.
 -- Assumes nothing.
+use Rattle.std.specs.Prelude.{Ok, Err}
 use Prim.Native.Nat.{ℕ, suc, ◌+◌, ◌^◌, ◌<◌, ◌≤◌}
 use mathlib.Core.Path.{◌≡◌}
 use mathlib.Core.Bool.{Bool, true, false}
@@ -33,14 +34,14 @@ small : (b : Bool) → bit b < 10
 small true = omega arith
 small false = omega arith
 
-module _ (l r : Line) (a : Answer) where
-  pub said_begun : a ≡ Answer.Begun → Grown l r (word "begun") → Said l r a
+module _ (l r : Line) (a : Response) where
+  pub said_begun : a ≡ Ok Answer.Begun → Grown l r (word "begun") → Said l r a
   said_begun e g = rw e (record { grown = g; short = omega arith })
 
-  pub said_going : a ≡ Answer.Going → Grown l r (word "going") → Said l r a
+  pub said_going : a ≡ Ok Answer.Going → Grown l r (word "going") → Said l r a
   said_going e g = rw e (record { grown = g; short = omega arith })
 
-  pub said_read : (x : Line) (b : Bool) (v w n : ℕ) → v < 4294967296 → w ≡ bit b → n < 256 → a ≡ Answer.Read v b n → Grown l x (word "read ")
+  pub said_read : (x : Line) (b : Bool) (v w n : ℕ) → v < 4294967296 → w ≡ bit b → n < 256 → a ≡ Ok (Answer.Read v b n) → Grown l x (word "read ")
       → Grown x r (three v w n)
       → Said l r a
   said_read x b v w n h i k e f g =
@@ -58,7 +59,7 @@ module _ (l r : Line) (a : Answer) where
         );
       })
 
-  pub said_written : (x : Line) (n : ℕ) → n < 256 → a ≡ Answer.Written n → Grown l x (word "written ") → Grown x r (decimal n) → Said l r a
+  pub said_written : (x : Line) (n : ℕ) → n < 256 → a ≡ Ok (Answer.Written n) → Grown l x (word "written ") → Grown x r (decimal n) → Said l r a
   said_written x n k e f g =
       rw e
       (record {
@@ -66,7 +67,7 @@ module _ (l r : Line) (a : Answer) where
         short = omega (arith, decimal_short 2 n (omega arith), length-append (word "written ") (decimal n));
       })
 
-  pub said_asked : (x : Line) (b : Bool) (v n : ℕ) → v ≡ bit b → n < 256 → a ≡ Answer.Asked b n → Grown l x (word "asked ") → Grown x r (two v n) → Said l r a
+  pub said_asked : (x : Line) (b : Bool) (v n : ℕ) → v ≡ bit b → n < 256 → a ≡ Ok (Answer.Asked b n) → Grown l x (word "asked ") → Grown x r (two v n) → Said l r a
   said_asked x b v n i k e f g =
       let g' : Grown x r (two (bit b) n) = rw i at g in
       rw e
@@ -75,7 +76,7 @@ module _ (l r : Line) (a : Answer) where
         short = omega (arith, two_length 0 (bit b) n (small b) k, length-append (word "asked ") (two (bit b) n));
       })
 
-  pub said_refused : (x : Line) (y : Refusal) (n : ℕ) → n ≡ number_of y → n < 4294967296 → a ≡ Answer.Refused y → Grown l x (word "refused ")
+  pub said_refused : (x : Line) (y : Refusal) (n : ℕ) → n ≡ number_of y → n < 4294967296 → a ≡ Err y → Grown l x (word "refused ")
       → Grown x r (decimal n) → Said l r a
   said_refused x y n i k e f g =
       let g' : Grown x r (decimal (number_of y)) = rw i at g in
@@ -86,7 +87,7 @@ module _ (l r : Line) (a : Answer) where
         short = omega (arith, decimal_short 9 (number_of y) (omega arith), length-append (word "refused ") (decimal (number_of y)));
       })
 
-pub answered : (o x y z r : Line) (k : ℕ) (a : Answer) → k < 18446744073709551616 → Made o [] → Grown o x (decimal k) → Grown x y (word " ")
+pub answered : (o x y z r : Line) (k : ℕ) (a : Response) → k < 18446744073709551616 → Made o [] → Grown o x (decimal k) → Grown x y (word " ")
     → Said y z a → Grown z r newline → Answered k a r
 unfolding answer_line
 answered o x y z r k a h m d s t n =

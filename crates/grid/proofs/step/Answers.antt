@@ -18,15 +18,15 @@ act-b-requires c = let fine = loop_end c.args.s _ _ _ _ c.sizes_fit-fits.ensures
     let seen = c.lane_of-j.ensures.0 ∙ ap lane_at c.named.ensures in
     judged_at c.args.s c.args.q.0 _ c.lane_of-k.ensures.0 _ refl _ _ seen refl _ fine
 
-pub returns-then-changes : goal.returns-then-changes
-returns-then-changes c = let fine = loop_end c.args.s _ _ _ _ c.sizes_fit-fits.ensures c.lanes_below-end.ensures.1
+pub returns-then-is_ok : goal.returns-then-is_ok
+returns-then-is_ok c = let fine = loop_end c.args.s _ _ _ _ c.sizes_fit-fits.ensures c.lanes_below-end.ensures.1
     c.loop-i.invariant.0 c.loop-i-test.false c.loop-i.invariant.1 in
     let seen = c.lane_of-j.ensures.0 ∙ ap lane_at c.named.ensures in
     step_is c.args.s c.args.q.0 _ c.lane_of-k.ensures.0 _ refl _ _ seen refl _ _ _ _ fine c.act-b.ensures
 
-pub returns-else-changes : goal.returns-else-changes
-returns-else-changes c = let fine = loop_end c.args.s _ _ _ _ c.sizes_fit-fits.ensures c.lanes_below-end.ensures.1
+pub returns-else-is_ok : goal.returns-else-is_ok
+returns-else-is_ok c = let fine = loop_end c.args.s _ _ _ _ c.sizes_fit-fits.ensures c.lanes_below-end.ensures.1
     c.loop-i.invariant.0 c.loop-i-test.false c.loop-i.invariant.1 in
     let seen = c.lane_of-j.ensures.0 ∙ ap lane_at c.named.ensures in
     step_kept c.args.s c.args.q.0 _ c.lane_of-k.ensures.0 _ refl _ _ seen refl _ _ _ _ fine c.act-b.ensures
-    (sym c.changes.ensures ∙ c.if-changes.false)
+    (sym c.is_ok.ensures.value ∙ c.if-is_ok.false)

@@ -8,8 +8,8 @@ returns-then-not-processes_fit c = search (no_processes)
 pub returns-then-not-cells_fit : goal.returns-then-not-cells_fit
 returns-then-not-cells_fit c = search (no_cells)
 
-pub returns-then-lengths_fit : goal.returns-then-lengths_fit
-returns-then-lengths_fit c = search (lengths_right)
+pub returns-then-not-lengths_fit : goal.returns-then-not-lengths_fit
+returns-then-not-lengths_fit c = search (lengths_wrong)
 
-pub returns-else-lengths_fit : goal.returns-else-lengths_fit
-returns-else-lengths_fit c = search (lengths_wrong)
+pub returns : goal.returns
+returns c = search (lengths_right)
