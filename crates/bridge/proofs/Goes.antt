@@ -6,11 +6,11 @@ use Rattle.std.proofs.Math.Decide.{ℕ_discrete, dec_lt}
 use Rattle.numbers.specs.Numbers.{most_segments, segment_of, offset_of, process_of, place_of}
 use Rattle.logic.specs.Pick.{pick}
 use Rattle.lanes.specs.Ranges.{lane_of, marks_of}
-use Rattle.steps.specs.Steps.{start_of, pool_word, check_mark, check, op_turn}
+use Rattle.steps.specs.Steps.{makes, start_of, pool_word, check_mark, check, op_turn}
 use Rattle.steps.specs.Changes.{top_after, memory_after}
 use Rattle.numbers.specs.Cells.{mark_of, index_of}
 use Rattle.theory.proofs.Interface as Theory
-use Rattle.demands.specs.Types.{Cell, Terms, Check, Op, State, Memory, Got, Found, Change, Next, Turn}
+use Rattle.demands.specs.Types.{Cell, Terms, Check, Op, State, Memory, Found, Change, Next, Turn}
 use Rattle.demands.specs.Book.{Book}
 use Rattle.demands.specs.Agrees.{Does}
 use Rattle.bridge.specs.Shadow.{grid_of, seen_of, check_at, stage_of, change_of, next_of, starts_in, words_of}

@@ -1,6 +1,7 @@
 -- A step keeps what is good.
 -- Assumes nothing.
-use Rattle.std.specs.Prelude.{ℕ, suc, ◌+◌, ◌<◌, ◌≡◌, refl, List, ◌∷◌}
+use Rattle.steps.specs.Steps.{makes}
+use Rattle.std.specs.Prelude.{ℕ, suc, ◌+◌, ◌<◌, ◌≡◌, refl, List, ◌∷◌, Some, Ok}
 use Rattle.std.proofs.Common.{sym, ap, ◌∙◌, subst, arith, length-set}
 use Rattle.std.proofs.Math.Decide.{ℕ_discrete}
 use Rattle.numbers.specs.Numbers.{offset_of}
@@ -10,7 +11,7 @@ use Rattle.steps.specs.ChangeLaws.{same_steps}
 use Rattle.acts.specs.Calls.{settled, advance, answer_of}
 use Rattle.acts.specs.Lent.{Lengths}
 use Rattle.theory.proofs.Interface as Theory
-use Rattle.demands.specs.Types.{Terms, Lane, State, Memory, Change, Next, Turn}
+use Rattle.demands.specs.Types.{Terms, Lane, State, Memory, Change, Next}
 use Rattle.demands.specs.Book.{Doing, nothing, busy, Book, counted, finished, note_step}
 use Rattle.demands.specs.Agrees.{LaneAgrees}
 use Rattle.bridge.specs.Shadow.{grid_of, pair_of, stage_of, lane_for, since_of, taken_of, change_of, next_of, mem_of, shadow}
@@ -37,7 +38,7 @@ abbrev pub book_after : Book → ℕ → ℕ → Theory.Op → ℕ → ℕ → N
 book_after b q began o i taken next = counted b q (doing_after began o i taken next) (ended_after b q began o i next)
 
 pub note_step_lem : (b : Book) (q n : ℕ) {began taken : ℕ} {o : Theory.Op} {i : ℕ} (next : Next) → b.doing q ≡ busy began o i taken
-    → note_step b q (answer_of n next) ≡ book_after b q began o i taken next
+    → note_step b q (Ok (answer_of n next)) ≡ book_after b q began o i taken next
 note_step_lem b q n (Next.Going op) e = rw e
 note_step_lem b q n (Next.Read v t) e = rw e
 note_step_lem b q n Next.Written e = rw e

@@ -6,7 +6,7 @@ use Rattle.std.proofs.Math.Decide.{dec_lt}
 use Rattle.numbers.specs.Numbers.{segment_of, link_processes, link_places, link_of}
 use Rattle.numbers.specs.Cells.{index_of, fill_at}
 use Rattle.lanes.specs.Ranges.{lane_of}
-use Rattle.steps.specs.Steps.{read_turn, asked_turn, tombstone_first, marking_at, marking_next, entered, checked_turn}
+use Rattle.steps.specs.Steps.{makes, read_turn, asked_turn, tombstone_first, marking_at, marking_next, entered, checked_turn}
 use Rattle.theory.proofs.Interface as Theory
 use Rattle.demands.specs.Types.{Cell, Place, Check, Marking, Op, Lane, State, Memory, Found, Change, Next, Turn}
 use Rattle.demands.specs.Book.{Book}

@@ -1,6 +1,6 @@
 -- The grid is what is demanded: demands 2 and 3 after any calls, and all of it together.
 -- Assumes nothing.
-use Rattle.std.specs.Prelude.{ℕ, suc, ◌<◌, ◌≡◌, refl, ◌≢◌, Bool, true, false, not, ltb}
+use Rattle.std.specs.Prelude.{ℕ, suc, ◌<◌, ◌≡◌, refl, ◌≢◌, Bool, true, false, not, ltb, Ok}
 use Rattle.std.proofs.Common.{sym, ap, ◌∙◌, subst, arith}
 use Rattle.logic.specs.Pick.{pick}
 use Rattle.numbers.specs.Numbers.{fill_of}
@@ -57,7 +57,7 @@ module _ {s : State} {mem : Memory} {b : Book} (H : Good s mem b) where
   bounds (Theory.write v) = refl
 
   reports : (most n taken : ℕ) (nx : Next) → n ≡ taken → taken < most → ((o : _) → nx ≡ Next.Going o → suc taken < most)
-      → Answers most (suc taken) (Grid.answer_of n nx)
+      → Answers most (suc taken) (Ok (Grid.answer_of n nx))
   reports most n taken (Next.Going o) e h k = k o refl
   reports most n taken (Next.Read v t) e h k = (omega arith, omega arith)
   reports most n taken Next.Written e h k = (omega arith, omega arith)

@@ -6,7 +6,7 @@ use mathlib.Core.List.{List, ◌++◌, Memᴰ}
 use Rattle.numbers.specs.Numbers.{fill_of}
 use Rattle.acts.specs.Worlds.{Reply, Result, World, world, grid, Call, begin, step, misfit, answer_to, world_after, Accepted, opened_world}
 use Rattle.theory.proofs.Interface as Theory
-use Rattle.demands.specs.Types.{Refusal, Terms, State, Memory, Ask, Answer, Response}
+use Rattle.demands.specs.Types.{Refusal, Terms, State, Memory, Ask}
 use Rattle.demands.specs.Kinds.{writing}
 use Rattle.demands.specs.Book.{Book, Run, run, start}
 use Rattle.demands.specs.Agrees.{Agrees}

@@ -1,5 +1,6 @@
 -- What each call comes to in a good state, and that the next run is good, its order grown.
 -- Assumes nothing.
+use Rattle.steps.specs.Steps.{makes}
 use Rattle.std.specs.Prelude.{ℕ, ◌<◌, ◌≡◌, Bool, false, ltb, Ok, Err}
 use Rattle.std.proofs.Math.Path.{refl}
 use Rattle.std.proofs.Common.{sym, ap, ◌∙◌, subst, arith, get_or-set_same}
@@ -13,7 +14,7 @@ use Rattle.lanes.specs.Ranges.{rest, lane_of, idle, lane_fits, state_fits}
 use Rattle.steps.specs.Changes.{top_after}
 use Rattle.acts.specs.Calls as Grid
 use Rattle.theory.proofs.Interface as Theory
-use Rattle.demands.specs.Types.{Refusal, Terms, Op, Lane, State, Memory, Ask, Answer, Response, Stepped, Verdict}
+use Rattle.demands.specs.Types.{Refusal, Terms, Op, Lane, State, Memory, Ask, Answer, Stepped, Verdict}
 use Rattle.acts.specs.Lent.{lengths_fit_lem}
 use Rattle.acts.specs.Worlds.{grid, Call, begin, step, misfit}
 use Rattle.demands.specs.Book.{Doing, nothing, busy, Book, note_begin, note_step, Run, next}

@@ -1,12 +1,12 @@
 -- Every step of a write after its check is the theory's step.
 -- Assumes nothing.
-use Rattle.std.specs.Prelude.{ℕ, suc, ◌+◌, ◌^◌, ◌<◌, ◌≡◌, refl, Bool, true, false, eqb, length, get_or, Option}
+use Rattle.std.specs.Prelude.{ℕ, suc, ◌+◌, ◌^◌, ◌<◌, ◌≡◌, refl, Bool, true, false, eqb, length, get_or, Some}
 use Rattle.std.proofs.Common.{sym, ap, ◌∙◌, subst, add-one, arith}
 use Rattle.std.proofs.Math.Decide.{dec_lt}
 use Rattle.numbers.specs.Numbers.{most_segments, link_processes, link_places, segment_of, offset_of, size_of, directory_word, link_of, tombstone}
 use Rattle.logic.specs.Pick.{pick}
 use Rattle.lanes.specs.Ranges.{lane_of}
-use Rattle.steps.specs.Steps.{goes, start_of, entered, stored, put_turn, marking_next, marking_turn}
+use Rattle.steps.specs.Steps.{makes, goes, start_of, entered, stored, put_turn, marking_next, marking_turn}
 use Rattle.steps.specs.Changes.{memory_after}
 use Rattle.numbers.specs.Cells.{mark_of, index_of}
 use Rattle.theory.proofs.Interface as Theory

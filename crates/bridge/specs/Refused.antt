@@ -1,6 +1,6 @@
 -- Demand 1 holds: the tables, and that a refusal changes nothing, in any state and memory.
 -- Assumes nothing.
-use Rattle.std.specs.Prelude.{ℕ, refl, Bool, true, false, not, List, [], ◌∷◌, Ok, Err, Option, None}
+use Rattle.std.specs.Prelude.{ℕ, refl, Bool, true, false, not, List, [], ◌∷◌, Ok, Err, Option, None, Some}
 use Rattle.std.proofs.Math.Path.{◌≡◌, ap}
 use Rattle.std.proofs.Common.{sym, ◌∙◌, arith}
 use Rattle.refusals.specs.Orders.{Rule, orders}
@@ -8,7 +8,7 @@ use Rattle.refusals.specs.Laws.{orders_then}
 use Rattle.logic.specs.Pick.{pick}
 use Rattle.lanes.specs.Ranges.{lane_of, state_fits}
 use Rattle.acts.specs.Calls as Grid
-use Rattle.demands.specs.Types.{Refusal, Cell, Terms, Op, State, Memory, Next, Turn, Answer, Response, Opening, Stepped, Acted, Verdict}
+use Rattle.demands.specs.Types.{Refusal, Cell, Terms, Op, State, Memory, Next, Turn, Opening, Stepped, Acted, Verdict}
 use Rattle.acts.specs.Settled.{put_back}
 use Rattle.acts.specs.Worlds.{Reply, Result, grid}
 use Rattle.demands.specs.Kinds.{writing}
@@ -51,7 +51,7 @@ module _ (s : State) (q : ℕ) (i : Cell) (op : Op) where
 
 -- ---- step, by any turn
 
-pub answers : (n : ℕ) (next : Next) → said (Grid.answer_of n next) ≡ steps
+pub answers : (n : ℕ) (next : Next) → said (Ok (Grid.answer_of n next)) ≡ steps
 answers n (Next.Going o) = refl
 answers n (Next.Read v t) = refl
 answers n Next.Written = refl

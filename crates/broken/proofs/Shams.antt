@@ -7,7 +7,7 @@ use Rattle.numbers.specs.Numbers.{fill_of, log_in, log2, segment_of, offset_of, 
 use Rattle.logic.specs.Below.{below}
 use Rattle.acts.specs.Calls.{opening_of, begun_of, verdict_of, begin_of}
 use Rattle.theory.specs.Interface.{upd}
-use Rattle.demands.specs.Types.{Refusal, Terms, State, Memory, Ask, Opening}
+use Rattle.demands.specs.Types.{Refusal, Terms, State, Memory, Ask}
 use Rattle.demands.specs.Kinds.{writing}
 use Rattle.acts.specs.Worlds.{Machine, Started, Result, grid, Call, Accepted, opened_world}
 use Rattle.demands.specs.Book.{run, start}

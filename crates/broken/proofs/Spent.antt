@@ -8,7 +8,7 @@ use Rattle.logic.specs.Below.{below}
 use Rattle.acts.specs.Calls.{opening_of, begun_of, verdict_of, begin_of}
 use Rattle.acts.specs.Worlds.{Result}
 use Rattle.theory.specs.Interface.{upd, sum}
-use Rattle.demands.specs.Types.{Refusal, State, Ask, Answer, Response}
+use Rattle.demands.specs.Types.{Refusal, State, Ask, Answer}
 use Rattle.demands.specs.Kinds.{writing}
 use Rattle.demands.specs.Book.{run}
 use Rattle.demands.specs.Demand2.{ByTheList}

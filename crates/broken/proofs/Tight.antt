@@ -7,7 +7,7 @@ use Rattle.numbers.specs.Numbers.{log_in, log2, segment_of, offset_of, size_of}
 use Rattle.logic.specs.Below.{below}
 use Rattle.acts.specs.Calls.{opening_of, begun_of, verdict_of}
 use Rattle.theory.specs.Interface.{upd, sum, read, asked, write}
-use Rattle.demands.specs.Types.{Answer, Response}
+use Rattle.demands.specs.Types.{Answer}
 use Rattle.demands.specs.Book.{run}
 use Rattle.demands.specs.Demand3.{most_steps, pool_bound}
 use Rattle.broken.specs.Lost.{terms}
@@ -21,7 +21,7 @@ pub asked_takes_four : answered (after 1 1 (0 ∷ []) asking) 0 ≡ Ok (Answer.A
 unfolding run upd ℕ_discrete below opening_of begun_of verdict_of log_in log2 segment_of offset_of size_of
 asked_takes_four = refl
 
-pub a_write_takes_eleven : answered (after 2 2 (0 ∷ 0 ∷ []) losing) 0 ≡ (Ok (Answer.Written (most_steps (write 9))))
+pub a_write_takes_eleven : answered (after 2 2 (0 ∷ 0 ∷ []) losing) 0 ≡ Ok (Answer.Written (most_steps (write 9)))
 unfolding run upd ℕ_discrete below opening_of begun_of verdict_of log_in log2 segment_of offset_of size_of
 a_write_takes_eleven = refl
 

@@ -3,7 +3,7 @@
 use Rattle.std.specs.Prelude.{ℕ, zero, suc, true, false, List, [], ◌∷◌, replicate, Ok}
 use Rattle.numbers.specs.Numbers.{directory_words, pool_words}
 use Rattle.steps.specs.Memory.{memory}
-use Rattle.demands.specs.Types.{Cell, Terms, State, Memory, Ask, Answer, Response}
+use Rattle.demands.specs.Types.{Cell, Terms, State, Memory, Ask, Answer}
 use Rattle.acts.specs.Worlds.{Machine, World, grid, Call, begin, step, opened_world}
 use Rattle.broken.specs.Histories.{Heard, hear, history}
 use Rattle.broken.specs.Mistakes.{swaps_first, no_tombstone}

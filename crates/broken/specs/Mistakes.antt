@@ -5,7 +5,7 @@ use Rattle.std.specs.Prelude.{ℕ, ◌+◌, ◌≡◌, refl, false, eqb, get_or,
 use Rattle.logic.specs.Pick.{pick}
 use Rattle.numbers.specs.Numbers.{link_of, offset_of}
 use Rattle.numbers.specs.Cells.{mark_of, index_of}
-use Rattle.steps.specs.Steps.{goes, found, tombstone_first, marking_next, checked_turn, put_turn, marking_turn, op_turn}
+use Rattle.steps.specs.Steps.{makes, goes, found, tombstone_first, marking_next, checked_turn, put_turn, marking_turn, op_turn}
 use Rattle.acts.specs.Calls as Grid
 use Rattle.acts.specs.Worlds.{Result, Machine, grid}
 use Rattle.lanes.specs.Ranges.{lane_of, marks_of}

@@ -3,7 +3,7 @@
 use Rattle.std.specs.Prelude.{ℕ, zero, suc, ◌+◌, List, [], ◌∷◌, Ok, Err}
 use Rattle.lanes.specs.Ranges.{lane_of}
 use Rattle.acts.specs.Calls.{Outcome, outcome, step_of, settled, with_op, fresh, closed}
-use Rattle.demands.specs.Types.{Refusal, Cell, Terms, Check, Marking, Op, State, Memory, Ask, Answer, Response, Opening}
+use Rattle.demands.specs.Types.{Refusal, Cell, Terms, Check, Marking, Op, State, Memory, Ask, Answer, Response}
 use Rattle.demands.specs.Kinds.{writing}
 use Rattle.acts.specs.Worlds.{Machine, grid, Call, World}
 use Rattle.demands.specs.Book.{Run, run, start}

@@ -2,7 +2,7 @@
 -- Assumes nothing.
 use Rattle.std.specs.Prelude.{ℕ, zero, suc, List, [], ◌∷◌}
 use Rattle.acts.specs.Calls.{step_of}
-use Rattle.demands.specs.Types.{State, Ask, Answer, Response}
+use Rattle.demands.specs.Types.{State, Ask, Response}
 use Rattle.demands.specs.Kinds.{writing}
 use Rattle.acts.specs.Worlds.{grid, Call, begin}
 use Rattle.demands.specs.Book.{Run, run, start}

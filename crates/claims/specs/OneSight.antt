@@ -13,6 +13,7 @@ use Rattle.lanes.specs.declared.Lane.{Lane}
 use Rattle.lanes.specs.declared.State.{State}
 use Rattle.lanes.specs.Ranges.{lane_of, marks_of}
 use Rattle.steps.specs.declared.Found.{Found}
+use Rattle.steps.specs.declared.Next.{Next}
 use Rattle.steps.specs.Memory.{Memory}
 use Rattle.steps.specs.Steps as Steps
 use Rattle.steps.specs.Steps.{start_of, pool_word, ends, check, check_link, checked_turn, put_turn, read_turn, asked_turn, marking_turn, found, op_turn}
@@ -73,7 +74,7 @@ module _ (z : Terms) (q : ℕ) (l : Lane) (s s' : State) (mem mem' : Memory) (hl
 module _ (z z' : Terms) (hp : z.p ≡ z'.p) (hf : z.first ≡ z'.first) (hs : z.step ≡ z'.step) (top q : ℕ) (l : Lane) (in_force : ℕ → ℕ)
     (mem : Memory) where
   check_of_three : (i : Cell) (c : Check) → found z top q l in_force mem i c ≡ found z' top q l in_force mem i c
-  check_of_three i Check.Link = ap (λ (p : ℕ). check_link p (get_or mem.links i.0 0)) hp
+  check_of_three i Check.Link = ap (λ (p : ℕ). Some (check_link p (get_or mem.links i.0 0))) hp
   check_of_three i (Check.Marks w) = refl
   check_of_three i (Check.Directory w) = refl
   check_of_three i (Check.Mark start w) = refl

@@ -15,7 +15,6 @@ use Rattle.acts.specs.declared.Answer.{Answer}
 use Rattle.acts.specs.Calls.{Opening, Response}
 use Rattle.acts.specs.Calls.{Verdict}
 use Rattle.acts.specs.Calls as Grid
-use Rattle.summary.specs.declared.Summary.TheVariants as Summary
 use Rattle.summary.specs.Summary.{summary_of}
 use Rattle.planners_text.specs.PlannersText as Text
 use Rattle.qhs.specs.declared.Reading.TheVariants as Reading

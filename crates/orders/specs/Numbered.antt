@@ -13,7 +13,6 @@ use Rattle.steps.specs.Memory.{Memory}
 use Rattle.acts.specs.declared.Ask.{Ask}
 use Rattle.acts.specs.declared.Answer.TheVariants as Answer
 use Rattle.acts.specs.Calls as Grid
-use Rattle.summary.specs.declared.Summary.TheVariants as Summary
 use Rattle.summary.specs.Summary.{summary_refusals, summary_of}
 use Rattle.planners_text.specs.PlannersText as Text
 use Rattle.qhs.specs.declared.Header.{Header}
@@ -56,7 +55,7 @@ pub record Orders : Type 0 where
       → InOrder Err (Grid.step_of s q mem).stepped.answer (step_rules s q mem) (9 ∷ 8 ∷ 4 ∷ 7 ∷ 9 ∷ [])
   -- Hour summary: 9 (state), 8, 10, 5, 9 (word)", and W4's 18, last.
   pub summary : (s : State) (h : ℕ) (mem : Memory)
-      → InOrder Summary.Refused (summary_of s h mem) (summary_refusals s h mem) (9 ∷ 8 ∷ 10 ∷ 5 ∷ 9 ∷ 18 ∷ [])
+      → InOrder Err (summary_of s h mem) (summary_refusals s h mem) (9 ∷ 8 ∷ 10 ∷ 5 ∷ 9 ∷ 18 ∷ [])
   -- The planners' text (W1): "9 (state), 8, 10, 9 (word), then 17 if the text doesn't fit".
   pub text : (s : State) (mem : Memory) (out : List ℕ)
       → InOrder (Text.nothing_written out) (Text.write_of s mem out) (Text.text_refusals s mem ++ Text.room_refusals s mem out) (9 ∷ 8 ∷ 10 ∷ 9 ∷ 17 ∷ [])

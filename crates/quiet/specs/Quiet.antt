@@ -52,12 +52,12 @@ looked_at s i links directory pool =
     (onward s i links directory pool (onward s i links directory pool (onward s i links directory pool (Some (Found.On Check.Link)))))
 
 -- What a read answers is what is read of its cell; none where a word of its check lies outside its memory.
-abbrev pub shown : ℕ → Bool → Quarter
-shown v b = record { reading = v; written = b }
+abbrev pub quarter_as : ℕ → Bool → Quarter
+quarter_as v b = record { reading = v; written = b }
 
 abbrev pub quarter_of : Next → Option Quarter
 quarter_of (Next.Going o) = None
-quarter_of (Next.Read v b) = Some (shown v b)
+quarter_of (Next.Read v b) = Some (quarter_as v b)
 quarter_of Next.Written = None
 quarter_of (Next.Asked b) = None
 

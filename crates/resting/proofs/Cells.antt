@@ -9,7 +9,7 @@ use Rattle.numbers.specs.Cells.{mark_of, cell_at}
 use Rattle.logic.specs.Pick.{pick}
 use Rattle.lanes.specs.Ranges.{lane_of}
 use Rattle.steps.specs.Steps.{start_of}
-use Rattle.quiet.specs.declared.Quarter.TheVariants as Quarter
+use Rattle.quiet.specs.Quiet.{quarter_as}
 use Rattle.quiet.specs.Quiet.{looked_at, reading_as, reading_at}
 use Rattle.quiet.specs.Looked.{no_process, not_in_force, by_mark}
 use Rattle.theory.proofs.Interface as Theory
@@ -100,7 +100,7 @@ module _ {s : State} {mem : Memory} {b : Book} (H : Good s mem b) (rest : (q : �
     tells_array (Theory.written w v hr hn e) = subst (λ (f : Option Found). Tells f (Theory.written_in order i)) (sym (found_written hr hn e)) w
 
     abbrev Reads : Type 0
-    Reads = reading_at s cell mem ≡ Quarter.Read (Theory.value_in (filled s.terms) order i) (Theory.written_in order i)
+    Reads = reading_at s cell mem ≡ Some (quarter_as (Theory.value_in (filled s.terms) order i) (Theory.written_in order i))
 
     reads_array : Theory.CellAtRest H.whole i → Reads
     reads_array (Theory.unwritten w v other) = ap (reading_as s cell mem.readings) (found_unwritten other) ∙ rw (v, w)

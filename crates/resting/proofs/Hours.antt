@@ -1,6 +1,6 @@
 -- In a good state: the scan finds it at rest exactly if the book does, and the hour summary is of the array's values of the written cells.
 -- Assumes nothing.
-use Rattle.std.specs.Prelude.{ℕ, ◌+◌, ◌*◌, ◌/◌, ◌≤◌, ◌<◌, ◌≡◌, refl, Bool, true, false, not, List}
+use Rattle.std.specs.Prelude.{ℕ, ◌+◌, ◌*◌, ◌/◌, ◌≤◌, ◌<◌, ◌≡◌, refl, Bool, true, false, not, List, Err}
 use Rattle.std.proofs.Common.{sym, ap, ◌∙◌}
 use Rattle.std.proofs.Math.Decide.{dec_lt}
 use native.Mathlib.Omega.{arith}
@@ -12,7 +12,6 @@ use Rattle.lanes.specs.Ranges.{lane_of, idle}
 use Rattle.acts.specs.Lent.{lengths_fit_lem}
 use Rattle.quiet.specs.declared.Scan.TheVariants as Scan
 use Rattle.quiet.specs.Quiet.{at_rest, scan_of}
-use Rattle.summary.specs.declared.Summary.TheVariants as Summary
 use Rattle.summary.specs.Summary.{summary_of}
 use Rattle.demands.specs.Types.{Refusal, Terms, State, Memory}
 use Rattle.demands.specs.Book.{Doing, nothing, busy, Book, Run}
@@ -55,7 +54,7 @@ module _ {s : State} {mem : Memory} {b : Book} (H : Good s mem b) where
 
   -- ---- with an operation under way
 
-  pub summary_busy : rests_in s.terms b ≡ false → (h : ℕ) → summary_of s h mem ≡ Summary.Refused Refusal.AtWork
+  pub summary_busy : rests_in s.terms b ≡ false → (h : ℕ) → summary_of s h mem ≡ Err Refusal.AtWork
   unfolding summary_of
   summary_busy e h = rw (scan_told, e, lengths_fit_lem H.lengths)
 

@@ -1,6 +1,6 @@
 -- The theorems, for all terms, every memory that open accepts, and all calls.
 -- Assumes nothing.
-use Rattle.std.specs.Prelude.{ℕ, ◌/◌, ◌≤◌, ◌<◌, ◌≡◌, refl, Bool, true, false, not, ◌≢◌, eqb, length}
+use Rattle.std.specs.Prelude.{Result, ℕ, ◌/◌, ◌≤◌, ◌<◌, ◌≡◌, refl, Bool, true, false, not, ◌≢◌, eqb, length, Some, Ok, Err}
 use Rattle.std.proofs.Common.{ap, ◌∙◌, subst, inl, inr, arith, lt-ltb, le-ltb, ne_eqb}
 use mathlib.Core.List.Memᴰ
 use mathlib.Core.List.{List, [], ◌∷◌, Memᴰ}
@@ -11,10 +11,10 @@ use Rattle.numbers.specs.Cells.{cell_at}
 use Rattle.acts.specs.Calls.{lengths_fit}
 use Rattle.acts.specs.Lent.{lengths_fit_lem}
 use Rattle.acts.specs.Worlds.{grid, Call, Accepted, opened_world}
-use Rattle.quiet.specs.declared.Quarter.TheVariants as Quarter
+use Rattle.quiet.specs.Quiet.{quarter_as}
 use Rattle.quiet.specs.declared.Scan.TheVariants as Scan
 use Rattle.quiet.specs.Quiet.{scan_of, reading_at}
-use Rattle.summary.specs.declared.Summary.{Summary}
+use Rattle.summary.specs.declared.Hour.{Hour}
 use Rattle.summary.specs.Summary.{hour_of, summary_of}
 use Rattle.theory.specs.Array.{written}
 use Rattle.theory.specs.Order.{Done, Entry, Is, deeds, value_in, written_in}
@@ -99,31 +99,31 @@ module _ (z : Terms) (mem : Memory) (ok : Accepted grid z mem) (calls : List (Ca
     pub written_at_rest : (i : ℕ) → i < z.m → Tells (looked (after z mem ok calls) (cell_at z i)) (written_in order i)
     written_at_rest = (shown.at_rest rest).written
 
-    pub reading_at_rest : (i : ℕ) → i < z.m → reading_at state (cell_at z i) memory ≡ Quarter.Read (value_in (filled z) order i) (written_in order i)
+    pub reading_at_rest : (i : ℕ) → i < z.m → reading_at state (cell_at z i) memory ≡ Some (quarter_as (value_in (filled z) order i) (written_in order i))
     reading_at_rest = (shown.at_rest rest).reading
 
     -- the order of refusals from 18 on
-    abbrev from_18 : List ℕ → Summary
-    from_18 vs = pick (eqb (length vs) 0) (Summary.Refused Refusal.NothingWritten) (Summary.Of (hour_of vs))
+    abbrev from_18 : List ℕ → Result Hour Refusal
+    from_18 vs = pick (eqb (length vs) 0) (Err Refusal.NothingWritten) (Ok (hour_of vs))
 
     there : (h : ℕ) → h < z.m / 4 → summary_of state h memory ≡ from_18 (values h)
     there h hh = summary_exactly h ∙ rw (Hours.resting_rests z (after z mem ok calls) rest, lt-ltb h (z.m / 4) hh)
 
-    pub summary_at_rest : (h : ℕ) → h < z.m / 4 → values h ≢ [] → summary_of state h memory ≡ Summary.Of (hour_of (values h))
+    pub summary_at_rest : (h : ℕ) → h < z.m / 4 → values h ≢ [] → summary_of state h memory ≡ Ok (hour_of (values h))
     summary_at_rest h hh some = there h hh ∙ by (values h) some
       where
-        by : (vs : List ℕ) → vs ≢ [] → from_18 vs ≡ Summary.Of (hour_of vs)
+        by : (vs : List ℕ) → vs ≢ [] → from_18 vs ≡ Ok (hour_of vs)
         by [] n = absurd (n refl)
         by (v ∷ vs) n = rw (ne_eqb (length (v ∷ vs)) 0 (λ x. let y : ⊥ = omega arith in y))
 
-    pub nothing_at_rest : (h : ℕ) → h < z.m / 4 → values h ≡ [] → summary_of state h memory ≡ Summary.Refused Refusal.NothingWritten
+    pub nothing_at_rest : (h : ℕ) → h < z.m / 4 → values h ≡ [] → summary_of state h memory ≡ Err Refusal.NothingWritten
     nothing_at_rest h hh none = there h hh ∙ ap from_18 none
 
-    pub no_hour_at_rest : (h : ℕ) → z.m / 4 ≤ h → summary_of state h memory ≡ Summary.Refused Refusal.NoSuchCell
+    pub no_hour_at_rest : (h : ℕ) → z.m / 4 ≤ h → summary_of state h memory ≡ Err Refusal.NoSuchCell
     no_hour_at_rest h hh = summary_exactly h ∙ rw (Hours.resting_rests z (after z mem ok calls) rest, le-ltb h (z.m / 4) hh)
 
     -- 9 (state), 8, 10 and 9 (word) do not occur.
-    pub refused_with_five_or_eighteen : (h : ℕ) (r : Refusal) → summary_of state h memory ≡ Summary.Refused r → FiveOrEighteen z h (values h) r
+    pub refused_with_five_or_eighteen : (h : ℕ) (r : Refusal) → summary_of state h memory ≡ Err r → FiveOrEighteen z h (values h) r
     refused_with_five_or_eighteen h r e = by (dec_lt h (z.m / 4)) (values h) refl
       where
         by : Dec (h < z.m / 4) → (vs : List ℕ) → values h ≡ vs → FiveOrEighteen z h (values h) r
@@ -145,7 +145,7 @@ no_values f h = refl
 
 -- 01's example 10: of a grid just opened, whatever its memory holds, every hour that is there gets 18.
 pub fresh_grid : (z : Terms) (mem : Memory) (ok : Accepted grid z mem) (h : ℕ) → h < z.m / 4
-    → summary_of (opened_world grid z mem).state h mem ≡ Summary.Refused Refusal.NothingWritten
+    → summary_of (opened_world grid z mem).state h mem ≡ Err Refusal.NothingWritten
 unfolding run
 fresh_grid z mem ok h hh =
     let S = shown z mem ok [] in

@@ -1,16 +1,15 @@
 -- After any calls, with no operation under way: what is found of each cell is what the array of demand 2 holds in the end, and
 -- the hour summary is over exactly the cells that the array has a write of. With one under way the summary is refused with 10.
 -- Assumes nothing.
-use Rattle.std.specs.Prelude.{ℕ, ◌*◌, ◌/◌, ◌≤◌, ◌<◌, ◌≡◌, Bool, true, false, not, ◌⊎◌, ltb, eqb, length, Option, None, Some}
+use Rattle.std.specs.Prelude.{Result, ℕ, ◌*◌, ◌/◌, ◌≤◌, ◌<◌, ◌≡◌, Bool, true, false, not, ◌⊎◌, ltb, eqb, length, Option, None, Some, Ok, Err}
 use mathlib.Core.List.{List, [], ◌∷◌, Memᴰ}
 use Rattle.logic.specs.Pick.{pick}
 use Rattle.logic.specs.Below.{below}
 use Rattle.numbers.specs.Numbers.{fill_of}
 use Rattle.numbers.specs.Cells.{cell_at}
 use Rattle.refusals.specs.Orders.{◌gives◌, orders}
-use Rattle.quiet.specs.declared.Quarter.TheVariants as Quarter
-use Rattle.quiet.specs.Quiet.{looked_at, reading_at}
-use Rattle.summary.specs.declared.Summary.{Summary}
+use Rattle.quiet.specs.Quiet.{looked_at, reading_at, quarter_as}
+use Rattle.summary.specs.declared.Hour.{Hour}
 use Rattle.summary.specs.Summary.{hour_of, four_from, summary_of}
 use Rattle.theory.specs.Order.{Done, Entry, Is, value_in, written_in}
 use Rattle.demands.specs.Types.{Refusal, Cell, Terms, State, Found}
@@ -54,11 +53,11 @@ abbrev pub hour_in : (ℕ → ℕ) → List Entry → ℕ → List ℕ
 hour_in f order h = values_of f order (four_from (4 * h))
 
 -- The summary of hour h in a run, from the book and the array's values of that hour: 10, 5, 18. 9 and 8 never occur.
-abbrev pub summary_in : Terms → Book → ℕ → List ℕ → Summary
+abbrev pub summary_in : Terms → Book → ℕ → List ℕ → Result Hour Refusal
 summary_in z b h values =
-    orders Summary.Refused
+    orders Err
     (not (rests_in z b) gives Refusal.AtWork ∷ not (ltb h (z.m / 4)) gives Refusal.NoSuchCell ∷ eqb (length values) 0 gives Refusal.NothingWritten ∷ [])
-    (Summary.Of (hour_of values))
+    (Ok (hour_of values))
 
 -- A refusal of the summary of hour h: 5 for an hour that is not there, 18 for one of which no value is written.
 abbrev pub FiveOrEighteen : Terms → ℕ → List ℕ → Refusal → Type 0
@@ -70,7 +69,7 @@ pub record AtRest (z : Terms) (r : Run State) (order : List Entry) : Type 0 wher
   pub finished : (e : Entry) → Memᴰ e order → (d : Done) × Memᴰ d r.book.ended × Is e d
   pub written : (i : ℕ) → i < z.m → Tells (looked r (cell_at z i)) (written_in order i)
   pub reading : (i : ℕ) → i < z.m
-      → reading_at r.world.state (cell_at z i) r.world.memory ≡ Quarter.Read (value_in (filled z) order i) (written_in order i)
+      → reading_at r.world.state (cell_at z i) r.world.memory ≡ Some (quarter_as (value_in (filled z) order i) (written_in order i))
 
 -- What any run shows. There is one order, as demand 2 has it; the summary answers by the book and by the array that it gives.
 pub record Shown (z : Terms) (r : Run State) : Type 0 where
@@ -80,4 +79,4 @@ pub record Shown (z : Terms) (r : Run State) : Type 0 where
 
 -- With an operation under way the summary of every hour is refused with 10.
 abbrev pub TenUnderWay : Terms → Run State → Type 0
-TenUnderWay z r = (h : ℕ) → UnderWay z r → summary_of r.world.state h r.world.memory ≡ Summary.Refused Refusal.AtWork
+TenUnderWay z r = (h : ℕ) → UnderWay z r → summary_of r.world.state h r.world.memory ≡ Err Refusal.AtWork

@@ -1,16 +1,17 @@
 -- What is claimed of the hour summary. (It changes nothing by its type: the state goes in by value and is not handed back, and the
 -- memories are lent to be read.) Definitions only: `Outcomes` has the proofs.
 -- Assumes nothing.
-use Rattle.std.specs.Prelude.{ℕ, ◌≡◌}
+use Rattle.std.specs.Prelude.{ℕ, ◌≡◌, Result}
 use Rattle.logic.specs.Determined.{Determined}
+use Rattle.refusals.specs.declared.Refusal.{Refusal}
 use Rattle.lanes.specs.declared.State.{State}
 use Rattle.steps.specs.Memory.{Memory}
-use Rattle.summary.specs.declared.Summary.{Summary}
+use Rattle.summary.specs.declared.Hour.{Hour}
 use Rattle.summary.specs.Summary.{summary_of}
 
 -- Any two outcomes that meet the promise coincide.
 abbrev pub OneSummary : Type 0
-OneSummary = (s : State) (h : ℕ) (mem : Memory) → Determined (λ (r : Summary). r ≡ summary_of s h mem)
+OneSummary = (s : State) (h : ℕ) (mem : Memory) → Determined (λ (r : Result Hour Refusal). r ≡ summary_of s h mem)
 
 -- No quarter counts with the filling rule: another rule changes nothing.
 abbrev pub filled_by : ℕ → ℕ → State → State

@@ -1,18 +1,17 @@
 -- The hour summary of document 01, over the written quarters only (02, W4): for hour h, cells 4h to 4h + 3 are looked at when no
 -- operation is under way.
 -- Assumes nothing.
-use Rattle.std.specs.Prelude.{ℕ, ◌+◌, ◌*◌, ◌/◌, Bool, true, false, not, ◌||◌, List, [], ◌∷◌, ltb, eqb, length}
+use Rattle.std.specs.Prelude.{ℕ, ◌+◌, ◌*◌, ◌/◌, Bool, true, false, not, ◌||◌, List, [], ◌∷◌, Option, None, Some, Result, Ok, Err, ltb, eqb, length}
 use Rattle.numbers.specs.Cells.{cell_at}
 use Rattle.refusals.specs.Orders.{Rule, ◌gives◌, orders}
 use Rattle.logic.specs.Pick.{pick}
-use Rattle.refusals.specs.declared.Refusal.TheVariants as Refusal
+use Rattle.refusals.specs.declared.Refusal.{Refusal}
 use Rattle.lanes.specs.declared.State.{State}
 use Rattle.steps.specs.Memory.{Memory}
 use Rattle.acts.specs.Calls.{lengths_fit}
 use Rattle.quiet.specs.declared.Quarter.{Quarter}
 use Rattle.quiet.specs.Quiet.{unfit, at_work, reading_at, scan_of}
 use Rattle.summary.specs.declared.Hour.{Hour}
-use Rattle.summary.specs.declared.Summary.{Summary}
 
 -- Peak is the greatest of the readings, mean = floor(sum / how many), and the summary says how many there were.
 abbrev pub greater : ℕ → ℕ → ℕ
@@ -33,29 +32,29 @@ hour_of vs = record { peak = greatest vs; mean = sum_of vs / length vs; count = 
 abbrev pub four_from : ℕ → List ℕ
 four_from i = i ∷ ((i + 1) ∷ ((i + 2) ∷ ((i + 3) ∷ [])))
 
-abbrev pub quarters : State → Memory → List ℕ → List Quarter
+abbrev pub quarters : State → Memory → List ℕ → List (Option Quarter)
 quarters s mem [] = []
 quarters s mem (i ∷ is) = reading_at s (cell_at s.terms i) mem ∷ quarters s mem is
 
 -- 9 (word): a word of some quarter's check lies outside its memory.
-abbrev pub outside : Quarter → Bool
-outside Quarter.Outside = true
-outside (Quarter.Read v written) = false
+abbrev pub outside : Option Quarter → Bool
+outside None = true
+outside (Some q) = false
 
-abbrev pub any_outside : List Quarter → Bool
+abbrev pub any_outside : List (Option Quarter) → Bool
 any_outside [] = false
 any_outside (q ∷ qs) = outside q || any_outside qs
 
 -- The readings of the written quarters.
-abbrev pub counted : Quarter → List ℕ → List ℕ
-counted Quarter.Outside vs = vs
-counted (Quarter.Read v written) vs = pick written (v ∷ vs) vs
+abbrev pub counted : Option Quarter → List ℕ → List ℕ
+counted None vs = vs
+counted (Some q) vs = pick q.written (q.reading ∷ vs) vs
 
-abbrev pub written_among : List Quarter → List ℕ
+abbrev pub written_among : List (Option Quarter) → List ℕ
 written_among [] = []
 written_among (q ∷ qs) = counted q (written_among qs)
 
-abbrev pub quarters_of : State → ℕ → Memory → List Quarter
+abbrev pub quarters_of : State → ℕ → Memory → List (Option Quarter)
 quarters_of s h mem = quarters s mem (four_from (4 * h))
 
 -- Hour summary: 9 (state), 8, 10, 5, 9 (word), then 18 when none of the four is written.
@@ -66,5 +65,5 @@ summary_refusals s h mem =
     ∷ any_outside (quarters_of s h mem) gives Refusal.OutOfRange
     ∷ eqb (length (written_among (quarters_of s h mem))) 0 gives Refusal.NothingWritten ∷ []
 
-unfoldable pub summary_of : State → ℕ → Memory → Summary
-summary_of s h mem = orders Summary.Refused (summary_refusals s h mem) (Summary.Of (hour_of (written_among (quarters_of s h mem))))
+unfoldable pub summary_of : State → ℕ → Memory → Result Hour Refusal
+summary_of s h mem = orders Err (summary_refusals s h mem) (Ok (hour_of (written_among (quarters_of s h mem))))

@@ -1,10 +1,9 @@
 // The hour summary: peak and mean of the written quarters of an hour, and how many they are, on a grid at rest.
 #![tactic(auto)]
 
-ghost use Rattle.std.specs.Prelude.{◌≡◌, ◌+◌, ◌/◌, ◌<◌};
+ghost use Rattle.std.specs.Prelude.{◌≡◌, ◌+◌, ◌/◌, ◌<◌, Some};
 ghost use Rattle.steps.specs.Memory.{memory};
-ghost use Rattle.quiet.specs.declared.Quarter.TheVariants as Quarter;
-ghost use Rattle.summary.specs.Summary.{greater, outside, four_from, quarters, written_among, summary_of};
+ghost use Rattle.summary.specs.Summary.{greater, four_from, quarters, written_among, summary_of};
 ghost use Rattle.summary.specs.Inner.{Few, Counts, Mean, hour_from, summed, summary_as, four};
 
 use acts::opens;
@@ -21,12 +20,6 @@ pub struct Hour {
     pub count: u32,
 }
 
-#[derive(Clone, Copy)]
-pub enum Summary {
-    Of(Hour),
-    Refused(Refusal),
-}
-
 // What is kept of the written quarters. The sum of four readings needs 34 bits.
 #[derive(Clone, Copy)]
 struct Tally {
@@ -41,29 +34,19 @@ fn greater(a: u32, b: u32) -> u32
     if a < b { b } else { a }
 }
 
-fn added(t: Tally, v: u32, written: bool) -> Tally
-    requires { Few 3 t }
-    ensures { Counts t (Quarter.Read v written) result }
-{
-    if written {
-        Tally {
-            count: t.count + 1,
-            sum: t.sum + v as u64,
-            peak: greater(t.peak, v),
-        }
-    } else {
-        t
-    }
-}
-
 // One quarter more, which counts if it is written.
 fn counted(t: Tally, q: Quarter) -> Tally
     requires { Few 3 t }
-    ensures { Counts t q result }
+    ensures { Counts t (Some q) result }
 {
-    match q {
-        Quarter::Outside => t,
-        Quarter::Read(v, written) => added(t, v, written),
+    if q.written {
+        Tally {
+            count: t.count + 1,
+            sum: t.sum + q.reading as u64,
+            peak: greater(t.peak, q.reading),
+        }
+    } else {
+        t
     }
 }
 
@@ -86,8 +69,8 @@ fn hour_of(t: Tally) -> Hour
 }
 
 // Counted from the last on: the list of readings grows at its front.
-fn summed(a: Quarter, b: Quarter, c: Quarter, d: Quarter) -> Summary
-    ensures { result ≡ summed (written_among (four a b c d)) }
+fn summed(a: Quarter, b: Quarter, c: Quarter, d: Quarter) -> Result<Hour, Refusal>
+    ensures { result ≡ summed (written_among (four (Some a) (Some b) (Some c) (Some d))) }
 {
     let none = Tally {
         count: 0,
@@ -96,39 +79,12 @@ fn summed(a: Quarter, b: Quarter, c: Quarter, d: Quarter) -> Summary
     };
     let t = counted(counted(counted(counted(none, d), c), b), a);
     if t.count == 0 {
-        return Summary::Refused(Refusal::NothingWritten);
+        return Err(Refusal::NothingWritten);
     }
-    Summary::Of(hour_of(t))
-}
-
-fn outside(q: Quarter) -> bool
-    ensures { result ≡ outside q }
-{
-    match q {
-        Quarter::Outside => true,
-        Quarter::Read(_, _) => false,
-    }
+    Ok(hour_of(t))
 }
 
 // All four are looked at before it is said that none is written.
-fn summary_as(a: Quarter, b: Quarter, c: Quarter, d: Quarter) -> Summary
-    ensures { result ≡ summary_as (four a b c d) }
-{
-    if outside(a) {
-        return Summary::Refused(Refusal::OutOfRange);
-    }
-    if outside(b) {
-        return Summary::Refused(Refusal::OutOfRange);
-    }
-    if outside(c) {
-        return Summary::Refused(Refusal::OutOfRange);
-    }
-    if outside(d) {
-        return Summary::Refused(Refusal::OutOfRange);
-    }
-    summed(a, b, c, d)
-}
-
 fn quarters(
     s: State,
     i: u32,
@@ -136,15 +92,16 @@ fn quarters(
     links: &[u64],
     directory: &[u32],
     pool: &[Mark],
-) -> Summary
+) -> Result<Hour, Refusal>
     requires { i + 3 < 4294967296 }
     ensures { result ≡ summary_as (quarters s (memory readings.now links.now directory.now pool.now) (four_from i)) }
 {
-    let a = quiet::reading_at(s, Cell(i), readings, links, directory, pool);
-    let b = quiet::reading_at(s, Cell(i + 1), readings, links, directory, pool);
-    let c = quiet::reading_at(s, Cell(i + 2), readings, links, directory, pool);
-    let d = quiet::reading_at(s, Cell(i + 3), readings, links, directory, pool);
-    summary_as(a, b, c, d)
+    let outside = Refusal::OutOfRange;
+    let a = quiet::reading_at(s, Cell(i), readings, links, directory, pool).ok_or(outside)?;
+    let b = quiet::reading_at(s, Cell(i + 1), readings, links, directory, pool).ok_or(outside)?;
+    let c = quiet::reading_at(s, Cell(i + 2), readings, links, directory, pool).ok_or(outside)?;
+    let d = quiet::reading_at(s, Cell(i + 3), readings, links, directory, pool).ok_or(outside)?;
+    summed(a, b, c, d)
 }
 
 // The summary of hour h. Nothing is changed: the state is lent by value and the memories are only read.
@@ -155,21 +112,21 @@ pub fn hour_summary(
     links: &[u64],
     directory: &[u32],
     pool: &[Mark],
-) -> Summary
+) -> Result<Hour, Refusal>
     ensures { result ≡ summary_of s h (memory readings.now links.now directory.now pool.now) }
 {
     let shown = quiet::scan_of(s);
-    if quiet::unfit(shown) {
-        return Summary::Refused(Refusal::OutOfRange);
+    if shown.is_unfit() {
+        return Err(Refusal::OutOfRange);
     }
     if !opens::lengths_fit(s.terms, readings, links, directory, pool) {
-        return Summary::Refused(Refusal::OtherLengths);
+        return Err(Refusal::OtherLengths);
     }
-    if quiet::at_work(shown) {
-        return Summary::Refused(Refusal::AtWork);
+    if shown.is_at_work() {
+        return Err(Refusal::AtWork);
     }
     if s.terms.m / 4 <= h {
-        return Summary::Refused(Refusal::NoSuchCell);
+        return Err(Refusal::NoSuchCell);
     }
     quarters(s, 4 * h, readings, links, directory, pool)
 }
