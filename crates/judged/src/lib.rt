@@ -233,7 +233,7 @@ fn verdict_of(
         return Verdict::Refused(Refusal::NoSuchProcess);
     }
     let o = l.op;
-    if lanes::idle(o) {
+    if o.is_idle() {
         return Verdict::Refused(Refusal::NothingUnderWay);
     }
     let t = turns::turn_of(z, top, q, l, seen, readings, links, directory, pool);

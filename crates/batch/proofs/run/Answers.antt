@@ -9,7 +9,7 @@ pub loop-i-init : goal.loop-i-init
 loop-i-init c = going_start c.args.kinds.now c.args.processes.now c.args.cells.now c.args.values.now c.args.answers.now _ _ _ _ c.args.s _ _
     (entries_are c.args.kinds.now c.args.processes.now c.args.cells.now c.args.values.now c.args.answers.now _ _ _ _ c.least.ensures
     c.least-2.ensures c.least-3.ensures c.least-n.ensures)
-    c.state_fits-fits.ensures
+    c.fits-fits.ensures
 
 pub entry-b-requires : goal.entry-b-requires
 entry-b-requires c = let seen = c.lane_of-j.ensures.0 ∙ ap lane_at c.named.ensures in
