@@ -164,7 +164,7 @@ pub fn run(
             pool,
         );
         let answer = b.answer;
-        steps::store::put_wide(answers, i, code_of(answer));
+        steps::store::put(answers, i, code_of(answer));
         i = i + 1;
         if begins::changes(answer) {
             let lane = b.lane;

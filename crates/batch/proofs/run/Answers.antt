@@ -20,14 +20,14 @@ pub loop-i-preserved-then-changes : goal.loop-i-preserved-then-changes
 loop-i-preserved-then-changes c = let from = c.lane_of-j.ensures.0 ∙ ap lane_at c.named.ensures in
     going_more _ _ _ _ _ _ _ _ _ _ _ _ _ _ _ _ _ c.loop-i.t _ c.loop-i.invariant _ _ _ _ _ _ _ _ _ _ refl c.loop-i-test.true c.lane_of-k.ensures.0
     from c.entry-b.ensures
-    (c.code_of.ensures.word, c.code_of.ensures.back) c.put_wide.ensures c.readings-1.given
+    (c.code_of.ensures.word, c.code_of.ensures.back) c.put.ensures c.readings-1.given
     c.links-1.given c.directory-1.given c.pool-1.given
 
 pub loop-i-preserved : goal.loop-i-preserved
 loop-i-preserved c = let from = c.lane_of-j.ensures.0 ∙ ap lane_at c.named.ensures in
     going_kept _ _ _ _ _ _ _ _ _ _ _ _ _ _ _ _ _ c.loop-i.t _ c.loop-i.invariant _ _ _ _ _ _ _ _ _ _
     c.changes.ensures c.if-changes.false c.loop-i-test.true c.lane_of-k.ensures.0 from c.entry-b.ensures
-    (c.code_of.ensures.word, c.code_of.ensures.back) c.put_wide.ensures c.readings-1.given
+    (c.code_of.ensures.word, c.code_of.ensures.back) c.put.ensures c.readings-1.given
     c.links-1.given c.directory-1.given c.pool-1.given
 
 pub returns-clause-done : goal.returns-clause-done
