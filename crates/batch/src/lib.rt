@@ -129,13 +129,11 @@ pub fn run(
 {
     let mut t = s;
     let fits = s.fits();
-    let n = numbers::least(
-        numbers::least(
-            numbers::least(kinds.len(), processes.len()),
-            numbers::least(cells.len(), values.len()),
-        ),
-        answers.len(),
-    );
+    let n = kinds
+        .len()
+        .min(processes.len())
+        .min(cells.len().min(values.len()))
+        .min(answers.len());
     let mut i: usize = 0;
     while i < n {
         let who = processes[i];

@@ -1,7 +1,7 @@
 // The numbers of the grid: cells, places and processes, segments, links and the filling rule.
 #![tactic(auto)]
 
-ghost use Rattle.std.specs.Prelude.{◌≡◌, ◌%◌, min};
+ghost use Rattle.std.specs.Prelude.{◌≡◌, ◌%◌};
 ghost use Rattle.numbers.specs.Numbers.{most_marks, directory_words, directory_word, pool_words, segment_of, offset_of, size_of};
 ghost use Rattle.numbers.specs.Numbers.{link_of, process_of, place_of, product_of, fill_of};
 ghost use Rattle.numbers.specs.Cells.{one_to, processes_fit, cells_fit, cell_fits, mark_of, index_of, fill_at};
@@ -187,11 +187,4 @@ pub fn fill_at(z: Terms, i: Cell) -> u32
     ensures { result ≡ fill_at z i }
 {
     fill(z.first, z.step, i.0)
-}
-
-// The lesser of two lengths.
-pub fn least(a: usize, b: usize) -> usize
-    ensures { result ≡ min a b }
-{
-    a.min(b)
 }

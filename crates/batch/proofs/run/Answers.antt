@@ -7,8 +7,8 @@ use Rattle.batch.proofs.run.Goals as goal
 
 pub loop-i-init : goal.loop-i-init
 loop-i-init c = going_start c.args.kinds.now c.args.processes.now c.args.cells.now c.args.values.now c.args.answers.now _ _ _ _ c.args.s _ _
-    (entries_are c.args.kinds.now c.args.processes.now c.args.cells.now c.args.values.now c.args.answers.now _ _ _ _ c.least.ensures
-    c.least-2.ensures c.least-3.ensures c.least-n.ensures)
+    (entries_are c.args.kinds.now c.args.processes.now c.args.cells.now c.args.values.now c.args.answers.now _ _ _ _ c.min.ensures
+    c.min-2.ensures c.min-3.ensures c.min-n.ensures)
     c.fits-fits.ensures
 
 pub entry-b-requires : goal.entry-b-requires
