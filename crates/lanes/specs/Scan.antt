@@ -1,11 +1,11 @@
--- A state looked at lane by lane: what a loop over the lanes has shown so far, and at its end.
+-- A state looked at lane by lane: what the first lanes have shown so far, and all in use at the end.
 -- Assumes nothing.
 use Rattle.std.specs.Prelude.{◌≡◌, refl, Bool, true, false, ◌&&◌, ℕ, zero, suc, ◌+◌, ◌≤◌, length, take}
 use Rattle.std.specs.List.{list_all}
 use Rattle.std.proofs.Common.{sym, ap, ◌∙◌, add-one, arith}
+use Rattle.std.proofs.Math.Bool.{and-true, and_assoc}
 use Rattle.std.proofs.lemmas.List.Folds.{list_all_more}
 use Rattle.numbers.specs.Numbers.{most_processes}
-use Rattle.logic.specs.Truth.{and_true, and_assoc}
 use Rattle.logic.specs.Below.{below}
 use Rattle.logic.specs.BelowLaws.{below_more}
 use Rattle.lanes.specs.declared.State.{State}
@@ -18,7 +18,7 @@ Passed s i fits = fits ≡ (sizes_fit s.terms s.top && below i (λ (q : ℕ). la
 
 pub passed_none : (s : State) (fits : Bool) → fits ≡ sizes_fit s.terms s.top → Passed s 0 fits
 unfolding below
-passed_none s fits e = e ∙ sym (and_true (sizes_fit s.terms s.top))
+passed_none s fits e = e ∙ sym (and-true (sizes_fit s.terms s.top))
 
 pub passed_more : (s : State) (i : ℕ) (fits b c : Bool) → Passed s i fits → b ≡ lane_fits s.terms (lane_of s i) → c ≡ (fits && b)
     → Passed s (i + 1) c
@@ -40,7 +40,7 @@ passed_all s false i fits e f h = h ∙ rw (← e) refl
 -- the first i lanes, looked at as a list
 pub passed_first : (s : State) (i : ℕ) → i ≤ length s.lanes
     → Passed s i (sizes_fit s.terms s.top && list_all (lane_fits s.terms) (take i s.lanes))
-passed_first s zero h = passed_none s _ (and_true (sizes_fit s.terms s.top))
+passed_first s zero h = passed_none s _ (and-true (sizes_fit s.terms s.top))
 passed_first s (suc i) h =
     rw (← add-one i)
     (passed_more s i _ (lane_fits s.terms (lane_of s i)) _ (passed_first s i (omega arith)) refl
