@@ -23,27 +23,17 @@ use Rattle.lanes.specs.declared.Check.{Check}
 use Rattle.lanes.specs.declared.Op.{Op}
 use Rattle.lanes.specs.declared.Lane.{Lane}
 use Rattle.lanes.specs.declared.State.{State}
-use Rattle.lanes.specs.Ranges.{rest, lane_of, marks_of, idle, check_fits, op_fits, sizes_fit, state_fits}
+use Rattle.lanes.specs.Ranges.{rest, lane_of, marks_of, idle, check_fits, op_fits, state_fits}
 use Rattle.lanes.specs.Laws.{sized, lane_ok, rest_fits_lem, sizes_of, lane_of_lem}
-use Rattle.lanes.specs.Scan.{Passed, passed_all}
-use Rattle.steps.specs.declared.Next.{Next}
 use Rattle.steps.specs.Memory.{Memory}
 use Rattle.acts.specs.declared.Ask.{Ask}
 use Rattle.acts.specs.declared.Answer.{Answer}
 use Rattle.acts.specs.declared.Acted.{Acted}
 use Rattle.acts.specs.Calls.{Verdict, Response}
 use Rattle.acts.specs.declared.Stepped.{Stepped}
-use Rattle.acts.specs.Calls.{lengths_fit, cell_of, op_of, refused_as, with_op, answer_of, begun_of, begin_of, verdict_of, turn_in, step_by, step_of}
+use Rattle.acts.specs.Calls.{lengths_fit, cell_of, op_of, refused_as, with_op, begun_of, begin_of, verdict_of, turn_in, step_by, step_of}
 use Rattle.acts.specs.Calls.{Effect, effect, effect_of, act_of, outcome, stepped_as, outcome_as}
 use Rattle.acts.specs.Inner.{lane_at, Judged, named_in, named, handed_turn}
-
--- past the last lane in use, the state has been looked at
-pub loop_end : (t : State) (b : Bool) (end i : ℕ) (fits : Bool) → b ≡ sizes_fit t.terms t.top → end ≡ pick b t.terms.p 0 → i ≤ end → end ≤ i
-    → Passed t i fits → fits ≡ state_fits t
-loop_end t b end i fits e f low high h = passed_all t b i fits e is_p h
-  where
-    is_p : b ≡ true → i ≡ t.terms.p
-    is_p x = let k : end ≡ t.terms.p = f ∙ rw x refl in omega arith
 
 -- the process that a lane in its range names is one of the grid's, or 0
 named_in_lem : (z : Terms) (c : Check) → 1 ≤ z.p → check_fits z c ≡ true → named_in c < z.p

@@ -1,6 +1,6 @@
 -- What functions inside the crate and above it lean on; no statement cites it.
 -- Assumes nothing.
-use Rattle.std.specs.Prelude.{ℕ, ◌<◌, ◌≤◌, ◌≡◌, refl, List, Bool, true, false, ltb}
+use Rattle.std.specs.Prelude.{ℕ, ◌<◌, ◌≤◌, ◌≡◌, refl, List, Bool, true, ltb}
 use Rattle.std.proofs.Common.{ap}
 use Rattle.numbers.specs.Numbers.{most_processes, most_marks, process_of}
 use Rattle.numbers.specs.declared.Cell.{Cell}
@@ -13,7 +13,6 @@ use Rattle.lanes.specs.Ranges.{lane_fits, sizes_fit}
 use Rattle.steps.specs.Memory.{Memory}
 use Rattle.steps.specs.Inner.{handed}
 use Rattle.steps.specs.Steps.{check, read_turn, asked_turn, checked_turn, op_turn}
-use Rattle.acts.specs.declared.Answer.{Answer}
 
 -- A process's lane; 0 where it has none.
 abbrev pub lane_at : ℕ → ℕ

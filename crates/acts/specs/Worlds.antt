@@ -5,7 +5,6 @@ use Rattle.numbers.specs.declared.Terms.{Terms}
 use Rattle.lanes.specs.declared.State.{State}
 use Rattle.steps.specs.Memory.{Memory}
 use Rattle.acts.specs.declared.Ask.{Ask}
-use Rattle.acts.specs.declared.Answer.{Answer}
 use Rattle.acts.specs.Calls.{Opening, Response}
 use Rattle.acts.specs.Calls.{lengths_fit, open_of, begin_of, step_of}
 

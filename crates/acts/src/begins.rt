@@ -1,7 +1,6 @@
 // Beginning an operation: the refusals, and the lane that it starts from. What a refusal of any call leaves.
-ghost use Rattle.std.specs.Prelude.{◌≡◌, true, ◌<◌, ◌≤◌};
+ghost use Rattle.std.specs.Prelude.{◌≡◌, ◌<◌};
 ghost use Rattle.numbers.specs.Numbers.{most_processes};
-ghost use Rattle.logic.specs.Pick.{pick};
 ghost use Rattle.acts.specs.Calls.{cell_of, op_of, begun_of};
 ghost use Rattle.acts.specs.Inner.{lane_at};
 
@@ -15,14 +14,6 @@ pub fn lane_of(q: Process) -> usize
     ensures { (result ≡ lane_at q.0) × (result < most_processes) }
 {
     if q.0 < PROCESSES { q.0 as usize } else { 0 }
-}
-
-// How many lanes are to be looked at: none where the sizes do not fit.
-pub fn lanes_below(fits: bool, p: u32) -> usize
-    requires { fits ≡ true → p ≤ most_processes }
-    ensures { (result ≤ most_processes) × (result ≡ pick fits p 0) }
-{
-    if fits { p as usize } else { 0 }
 }
 
 pub fn cell_of(a: Ask) -> Cell
@@ -66,8 +57,7 @@ pub fn begun(fits: bool, z: Terms, top: u32, q: Process, l: Lane, i: Cell, o: Op
     if z.p <= q.0 {
         return refused(l, top, Refusal::NoSuchProcess);
     }
-    let under_way = l.op;
-    if !lanes::idle(under_way) {
+    if !l.op.is_idle() {
         return refused(l, top, Refusal::UnderWay);
     }
     if !numbers::cell_fits(z, i) {

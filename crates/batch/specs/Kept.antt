@@ -13,8 +13,6 @@ use Rattle.lanes.specs.declared.State.{State}
 use Rattle.lanes.specs.Ranges.{lane_of, idle, op_fits, lane_fits, state_fits}
 use Rattle.lanes.specs.Laws.{sized, lane_ok, sizes_of, lane_of_lem}
 use Rattle.numbers.specs.declared.Terms.{Terms}
-use Rattle.steps.specs.declared.Change.{Change}
-use Rattle.steps.specs.declared.Next.{Next}
 use Rattle.steps.specs.declared.Turn.{Turn}
 use Rattle.steps.specs.Memory.{Memory}
 use Rattle.steps.specs.Changes.{lane_after, top_after}

@@ -2,7 +2,6 @@
 #![tactic(auto)]
 
 ghost use Rattle.std.specs.Prelude.{◌≡◌, ◌<◌, Ok};
-ghost use Rattle.lanes.specs.Ranges.{state_fits};
 ghost use Rattle.steps.specs.Memory.{memory};
 ghost use Rattle.acts.specs.Calls.{op_of, effect};
 ghost use Rattle.acts.specs.Inner.{Judged};
@@ -12,20 +11,6 @@ use acts::{Acted, Answer, begins};
 use lanes::{Check, Lane, Op, State};
 use numbers::{Cell, Mark, Process, Terms};
 use refusals::Refusal;
-
-fn state_fits(s: State) -> bool
-    ensures { result ≡ state_fits s }
-{
-    let z = s.terms;
-    let mut fits = lanes::sizes_fit(z, s.top);
-    let end = begins::lanes_below(fits, z.p);
-    let mut i: usize = 0;
-    while i < end {
-        fits = logic::both(fits, lanes::lane_fits(z, s.lanes[i]));
-        i = i + 1;
-    }
-    fits
-}
 
 fn code(kind: u64, count: u32, value: u32) -> u64
     requires { (kind < 256) × (count < 16777216) }
@@ -153,14 +138,12 @@ pub fn run(
         (entries kinds.now processes.now cells.now values.now answers.old) answers.new }
 {
     let mut t = s;
-    let fits = state_fits(s);
-    let n = numbers::least(
-        numbers::least(
-            numbers::least(kinds.len(), processes.len()),
-            numbers::least(cells.len(), values.len()),
-        ),
-        answers.len(),
-    );
+    let fits = s.fits();
+    let n = kinds
+        .len()
+        .min(processes.len())
+        .min(cells.len().min(values.len()))
+        .min(answers.len());
     let mut i: usize = 0;
     while i < n {
         let who = processes[i];
@@ -189,7 +172,7 @@ pub fn run(
             pool,
         );
         let answer = b.answer;
-        steps::store::put_wide(answers, i, code_of(answer));
+        steps::store::put(answers, i, code_of(answer));
         i = i + 1;
         if answer.is_ok() {
             let lane = b.lane;

@@ -34,13 +34,7 @@ pub fn begin(s: State, q: Process, a: Ask) -> Stepped
 {
     let mut t = s;
     let z = t.terms;
-    let mut fits = lanes::sizes_fit(z, t.top);
-    let end = begins::lanes_below(fits, z.p);
-    let mut i: usize = 0;
-    while i < end {
-        fits = logic::both(fits, lanes::lane_fits(z, t.lanes[i]));
-        i = i + 1;
-    }
+    let fits = t.fits();
     let k = begins::lane_of(q);
     let l = t.lanes[k];
     let cell = begins::cell_of(a);
@@ -70,13 +64,7 @@ pub fn step(
 {
     let mut t = s;
     let z = t.terms;
-    let mut fits = lanes::sizes_fit(z, t.top);
-    let end = begins::lanes_below(fits, z.p);
-    let mut i: usize = 0;
-    while i < end {
-        fits = logic::both(fits, lanes::lane_fits(z, t.lanes[i]));
-        i = i + 1;
-    }
+    let fits = t.fits();
     let k = begins::lane_of(q);
     let l = t.lanes[k];
     let o = l.op;

@@ -6,33 +6,21 @@ use mathlib.Core.List.{List}
 use mathlib.Core.Bool.{Bool, true, false, not}
 use Prim.Native.Nat.{ℕ, ◌<◌, ◌≤◌}
 use native.Mathlib.Omega.{arith}
-use lib.Dec.{ltb, leb}
-use borrow.Author.Tests.{ltb-true, not-false, lt-ltb, le-ltb, le-leb, lt-leb}
-use Rattle.numbers.specs.Numbers.{most_segments, most_steps, most_marks, pool_words}
-use Rattle.numbers.specs.declared.Process.{Process}
+use lib.Dec.{ltb}
+use borrow.Author.Tests.{ltb-true, not-false, lt-ltb, le-ltb}
+use Rattle.numbers.specs.Numbers.{most_steps}
 use Rattle.refusals.specs.declared.Refusal.{Refusal}
-use Rattle.numbers.specs.declared.Cell.{Cell}
-use Rattle.numbers.specs.declared.Place.{Place}
 use Rattle.numbers.specs.declared.Terms.{Terms}
-use Rattle.lanes.specs.declared.Marking.{Marking}
 use Rattle.steps.specs.Inner.{handed}
-use Rattle.lanes.specs.declared.Check.{Check}
-use Rattle.lanes.specs.declared.Op.{Op}
 use Rattle.lanes.specs.declared.Lane.{Lane}
 use Rattle.lanes.specs.Ranges.{idle, lane_fits, sizes_fit}
 use Rattle.lanes.specs.Laws.{lane_steps}
-use Rattle.steps.specs.declared.Change.{Change}
-use Rattle.steps.specs.declared.Next.{Next}
 use Rattle.steps.specs.declared.Turn.{Turn}
 use Rattle.steps.specs.Memory.{Memory, memory}
 use Rattle.steps.specs.Steps.{turn_of}
-use Rattle.steps.specs.Changes.{lane_after, top_after, memory_after}
-use Rattle.steps.specs.ChangeLaws.{same_steps}
-use Rattle.acts.specs.declared.Acted.{Acted}
-use Rattle.acts.specs.declared.Answer.{Answer}
-use Rattle.acts.specs.Calls.{Verdict, lengths_fit, refused_as, advance, answer_of, numbers_fit, decided, verdict_of, effect, act_of}
-use Rattle.acts.specs.Inner.{named_in, named, Judged}
-use Rattle.judged.specs.Inner.{change_fits, marking_goes, op_goes, next_fits, new_fits, Told, moved_to}
+use Rattle.acts.specs.Calls.{Verdict, lengths_fit, decided, verdict_of}
+use Rattle.acts.specs.Inner.{Judged}
+use Rattle.judged.specs.Inner.{Told}
 use Rattle.judged.proofs.NewLaws.{told}
 
 module _ (fits : Bool) (z : Terms) (top q : ℕ) (l : Lane) (mem : Memory) (t : Option Turn) where

@@ -11,7 +11,7 @@ use borrow.Author.Tests.{le-leb, lt-leb, ltb-true, ltb-false}
 use Rattle.numbers.specs.Numbers.{segment_of, most_segments, most_steps, most_marks, pool_words, process_of, place_of, link_of}
 use Rattle.numbers.specs.declared.Cell.{Cell}
 use Rattle.numbers.specs.declared.Place.{Place}
-use Rattle.logic.specs.Truth.{and_assoc}
+use Rattle.std.proofs.Math.Bool.{and_assoc}
 use Rattle.logic.specs.Pick.{pick}
 use Rattle.numbers.specs.Cells.{cell_fits, mark_of, index_of}
 use Rattle.numbers.specs.declared.Terms.{Terms}

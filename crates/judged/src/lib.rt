@@ -161,7 +161,7 @@ fn verdict_of(
     if z.p <= q.0 {
         return Err(Refusal::NoSuchProcess);
     }
-    if lanes::idle(l.op) {
+    if l.op.is_idle() {
         return Err(Refusal::NothingUnderWay);
     }
     let t = turns::turn_of(z, top, q, l, seen, readings, links, directory, pool);

@@ -2,7 +2,7 @@
 #![tactic(auto)]
 
 ghost use Rattle.std.specs.Prelude.{◌≡◌};
-ghost use Rattle.lanes.specs.Ranges.{idle, cell_in, place_in, place_fits, link_fits, check_fits, rest_fits, lane_fits, sizes_fit};
+ghost use Rattle.lanes.specs.Ranges.{idle, cell_in, place_in, place_fits, link_fits, check_fits, rest_fits, op_fits, lane_fits, sizes_fit, state_fits};
 
 use numbers::{Cell, LANES, Place, SEGMENTS, STEPS, Terms};
 
@@ -68,51 +68,6 @@ pub struct State {
     pub lanes: [Lane; LANES],
 }
 
-// Whether no operation is under way.
-pub fn idle(o: Op) -> bool
-    ensures { result ≡ idle o }
-{
-    match o {
-        Op::Idle => true,
-        Op::Read(_, _) => false,
-        Op::Reading(_) => false,
-        Op::Asked(_, _) => false,
-        Op::Store(_, _) => false,
-        Op::Write(_, _) => false,
-        Op::Marking(_, _) => false,
-    }
-}
-
-// The cell of an operation; cell 0 where none is under way.
-fn cell_in(o: Op) -> Cell
-    ensures { result ≡ cell_in o }
-{
-    match o {
-        Op::Idle => Cell(0),
-        Op::Read(i, _) => i,
-        Op::Reading(i) => i,
-        Op::Asked(i, _) => i,
-        Op::Store(i, _) => i,
-        Op::Write(i, _) => i,
-        Op::Marking(i, _) => i,
-    }
-}
-
-// The place of a marking.
-pub fn place_in(k: Marking) -> Place
-    ensures { result ≡ place_in k }
-{
-    match k {
-        Marking::Draw(_, _, n) => n,
-        Marking::Enter(_, _, _, n) => n,
-        Marking::Tombstone(_, n) => n,
-        Marking::Mark(_, n) => n,
-        Marking::Force(_, n) => n,
-        Marking::Swap(_, n) => n,
-        Marking::TakeBack(n) => n,
-    }
-}
-
 pub fn place_fits(z: Terms, n: Place) -> bool
     ensures { result ≡ place_fits z n }
 {
@@ -122,71 +77,111 @@ pub fn place_fits(z: Terms, n: Place) -> bool
 fn link_fits(z: Terms, w: u64) -> bool
     ensures { result ≡ link_fits z w }
 {
-    if numbers::process_of(w).0 < z.p {
-        place_fits(z, numbers::place_of(w))
-    } else {
-        false
+    numbers::process_of(w).0 < z.p && place_fits(z, numbers::place_of(w))
+}
+
+impl Check {
+    fn fits(&self, z: Terms) -> bool
+        ensures { result ≡ check_fits z self.now }
+    {
+        match *self {
+            Check::Link => true,
+            Check::Marks(w) => numbers::process_of(w).0 < z.p,
+            Check::Directory(w) | Check::Mark(_, w) => link_fits(z, w),
+        }
     }
 }
 
-fn check_fits(z: Terms, c: Check) -> bool
-    ensures { result ≡ check_fits z c }
-{
-    match c {
-        Check::Link => true,
-        Check::Marks(w) => numbers::process_of(w).0 < z.p,
-        Check::Directory(w) => link_fits(z, w),
-        Check::Mark(_, w) => link_fits(z, w),
+impl Marking {
+    pub fn place(&self) -> Place
+        ensures { result ≡ place_in self.now }
+    {
+        match *self {
+            Marking::Draw(_, _, n)
+            | Marking::Enter(_, _, _, n)
+            | Marking::Tombstone(_, n)
+            | Marking::Mark(_, n)
+            | Marking::Force(_, n)
+            | Marking::Swap(_, n)
+            | Marking::TakeBack(n) => n,
+        }
     }
 }
 
-// What an operation holds beside its cell.
-fn rest_fits(z: Terms, o: Op) -> bool
-    ensures { result ≡ rest_fits z o }
-{
-    match o {
-        Op::Idle => true,
-        Op::Read(_, c) => check_fits(z, c),
-        Op::Reading(_) => true,
-        Op::Asked(_, c) => check_fits(z, c),
-        Op::Store(_, _) => true,
-        Op::Write(_, c) => check_fits(z, c),
-        Op::Marking(_, k) => place_fits(z, place_in(k)),
+impl Op {
+    // Whether no operation is under way.
+    pub fn is_idle(&self) -> bool
+        ensures { result ≡ idle self.now }
+    {
+        matches!(*self, Op::Idle)
+    }
+
+    // The cell of an operation; cell 0 where none is under way.
+    fn cell(&self) -> Cell
+        ensures { result ≡ cell_in self.now }
+    {
+        match *self {
+            Op::Idle => Cell(0),
+            Op::Read(i, _)
+            | Op::Reading(i)
+            | Op::Asked(i, _)
+            | Op::Store(i, _)
+            | Op::Write(i, _)
+            | Op::Marking(i, _) => i,
+        }
+    }
+
+    // Whether what an operation holds beside its cell is in its range.
+    fn rest_fits(&self, z: Terms) -> bool
+        ensures { result ≡ rest_fits z self.now }
+    {
+        match *self {
+            Op::Idle | Op::Reading(_) | Op::Store(_, _) => true,
+            Op::Read(_, c) | Op::Asked(_, c) | Op::Write(_, c) => c.fits(z),
+            Op::Marking(_, k) => place_fits(z, k.place()),
+        }
     }
 }
 
-// Whether a lane's numbers are in their ranges. Most lanes are at rest: asked first.
-pub fn lane_fits(z: Terms, l: Lane) -> bool
-    ensures { result ≡ lane_fits z l }
-{
-    if numbers::most_marks(z.m) < l.marks as usize {
-        return false;
+impl Lane {
+    // Whether a lane's numbers are in their ranges.
+    pub fn fits(&self, z: Terms) -> bool
+        ensures { result ≡ lane_fits z self.now }
+    {
+        self.marks as usize <= numbers::most_marks(z.m)
+            && u32::from(self.drawn) <= SEGMENTS
+            && self.op_fits(z)
     }
-    if SEGMENTS < l.drawn as u32 {
-        return false;
+
+    // Most lanes are at rest: asked first.
+    fn op_fits(&self, z: Terms) -> bool
+        ensures { result ≡ op_fits z self.now.steps self.now.op }
+    {
+        if self.op.is_idle() {
+            self.steps == 0
+        } else {
+            self.steps <= STEPS && numbers::cell_fits(z, self.op.cell()) && self.op.rest_fits(z)
+        }
     }
-    let o = l.op;
-    if idle(o) {
-        return l.steps == 0;
-    }
-    if STEPS < l.steps {
-        return false;
-    }
-    if !numbers::cell_fits(z, cell_in(o)) {
-        return false;
-    }
-    rest_fits(z, o)
 }
 
 // Whether p, m and the pool's top are in their ranges.
 pub fn sizes_fit(z: Terms, top: u32) -> bool
     ensures { result ≡ sizes_fit z top }
 {
-    if !numbers::processes_fit(z.p) {
-        return false;
+    numbers::processes_fit(z.p)
+        && numbers::cells_fit(z.m)
+        && top as usize <= numbers::pool_words(z.p, z.m)
+}
+
+impl State {
+    // Whether every number that a call looks at is in its range. Lanes at or above p are not looked at.
+    pub fn fits(&self) -> bool
+        ensures { result ≡ state_fits self.now }
+    {
+        sizes_fit(self.terms, self.top)
+            && self.lanes[..self.terms.p as usize]
+                .iter()
+                .all(|l| l.fits(self.terms))
     }
-    if !numbers::cells_fit(z.m) {
-        return false;
-    }
-    top as usize <= numbers::pool_words(z.p, z.m)
 }

@@ -1,10 +1,2 @@
-// Tests: one of two by a test, both of two, and a test at every number below a bound.
+// Tests: one of two by a test, truth tables, and a test at every number below a bound. Definitions and laws, in specs/.
 #![tactic(auto)]
-
-ghost use Rattle.std.specs.Prelude.{◌≡◌, ◌&&◌};
-
-pub fn both(a: bool, b: bool) -> bool
-    ensures { result ≡ (a && b) }
-{
-    if a { b } else { false }
-}

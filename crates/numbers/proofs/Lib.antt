@@ -1,3 +1,2 @@
-pub mod Product
 pub mod Laws
 pub mod Logs

@@ -1,7 +1,7 @@
 // The numbers of the grid: cells, places and processes, segments, links and the filling rule.
 #![tactic(auto)]
 
-ghost use Rattle.std.specs.Prelude.{◌≡◌, ◌%◌, min};
+ghost use Rattle.std.specs.Prelude.{◌≡◌, ◌%◌};
 ghost use Rattle.numbers.specs.Numbers.{most_marks, directory_words, directory_word, pool_words, segment_of, offset_of, size_of};
 ghost use Rattle.numbers.specs.Numbers.{link_of, process_of, place_of, product_of, fill_of};
 ghost use Rattle.numbers.specs.Cells.{one_to, processes_fit, cells_fit, cell_fits, mark_of, index_of, fill_at};
@@ -50,12 +50,12 @@ pub const CELL_MARKS: usize = 4;
 pub const PROCESS_MARKS: usize = 2;
 
 // What a pool word holds where no cell's mark may stand.
-pub const TOMBSTONE: Mark = 4294967295;
+pub const TOMBSTONE: Mark = u32::MAX;
 
 // A link's process is one of 2^14, its place one of 2^50.
-pub const LINK_PROCESSES: u64 = 16384;
+pub const LINK_PROCESSES: u64 = 1 << 14;
 
-pub const LINK_PLACES: u64 = 1125899906842624;
+pub const LINK_PLACES: u64 = 1 << 50;
 
 // The marks in force of a lane at the most, in a grid of m cells.
 pub fn most_marks(m: u32) -> usize
@@ -89,7 +89,7 @@ pub fn pool_words(p: u32, m: u32) -> usize
 pub fn segment_of(n: Place) -> u32
     ensures { result ≡ segment_of n.0 }
 {
-    63 - u64::leading_zeros(n.0 / 2 + 1)
+    (n.0 / 2 + 1).ilog2()
 }
 
 // Where in its segment a place lies: the segment's first place is 2 * (2^s - 1).
@@ -110,7 +110,7 @@ pub fn size_of(s: u32) -> u64
 pub fn link_of(q: Process, n: Place) -> u64
     ensures { result ≡ link_of q.0 n.0 }
 {
-    (q.0 as u64) % LINK_PROCESSES * LINK_PLACES + n.0 % LINK_PLACES
+    u64::from(q.0) % LINK_PROCESSES * LINK_PLACES + n.0 % LINK_PLACES
 }
 
 // The process that a link names.
@@ -131,20 +131,20 @@ pub fn place_of(w: u64) -> Place
 pub fn wrapping_mul(a: u32, b: u32) -> u32
     ensures { result ≡ product_of a b }
 {
-    ((a as u64) * (b as u64) % 4294967296) as u32
+    a.wrapping_mul(b)
 }
 
 // The filling rule at a number.
 pub fn fill(first: u32, step: u32, n: u32) -> u32
     ensures { result ≡ fill_of first step n }
 {
-    std::num::wrapping_add_u32(first, wrapping_mul(step, n))
+    first.wrapping_add(wrapping_mul(step, n))
 }
 
 fn one_to(n: u32, most: u32) -> bool
     ensures { result ≡ one_to n most }
 {
-    if n < 1 { false } else { n <= most }
+    (1..=most).contains(&n)
 }
 
 // Whether p is a number of processes that a grid may have,
@@ -187,11 +187,4 @@ pub fn fill_at(z: Terms, i: Cell) -> u32
     ensures { result ≡ fill_at z i }
 {
     fill(z.first, z.step, i.0)
-}
-
-// The lesser of two lengths.
-pub fn least(a: usize, b: usize) -> usize
-    ensures { result ≡ min a b }
-{
-    if a < b { a } else { b }
 }

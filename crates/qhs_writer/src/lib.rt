@@ -31,8 +31,8 @@ pub enum Wrote {
 fn count(kinds: &[u8], processes: &[u8], cells: &[u16], values: &[u32]) -> usize
     ensures { result ≡ count (fields kinds.now processes.now cells.now values.now) }
 {
-    let ends = numbers::least(cells.len(), values.len());
-    numbers::least(kinds.len(), numbers::least(processes.len(), ends))
+    let ends = cells.len().min(values.len());
+    kinds.len().min(processes.len()).min(ends)
 }
 
 // Whether the first n kinds are known.

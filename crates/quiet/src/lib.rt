@@ -1,12 +1,12 @@
 // A grid at rest: whether no operation is under way, and what each cell then holds.
 #![tactic(auto)]
 
-ghost use Rattle.std.specs.Prelude.{◌≡◌};
+ghost use Rattle.std.specs.Prelude.{◌≡◌, true};
+ghost use Rattle.lanes.specs.Ranges.{state_fits};
 ghost use Rattle.steps.specs.Memory.{memory};
 ghost use Rattle.acts.specs.Inner.{named_in};
-ghost use Rattle.quiet.specs.Quiet.{marks_at, onward, looked_at, quarter_of, reading_as, reading_at, unfit, at_work, scan_of};
+ghost use Rattle.quiet.specs.Quiet.{marks_at, onward, looked_at, quarter_of, reading_as, reading_at, unfit, at_work, at_rest, scan_of};
 
-use acts::begins;
 use lanes::{Check, State};
 use numbers::{Cell, Mark, PROCESSES};
 use steps::{Found, Next};
@@ -28,25 +28,25 @@ pub struct Quarter {
     pub written: bool,
 }
 
+// Whether no operation is under way, in a state that fits.
+fn at_rest(s: &State) -> bool
+    requires { state_fits s.now ≡ true }
+    ensures { result ≡ at_rest s.now }
+{
+    s.lanes[..s.terms.p as usize].iter().all(|l| l.op.is_idle())
+}
+
 pub fn scan_of(s: State) -> Scan
     ensures { result ≡ scan_of s }
 {
-    let z = s.terms;
-    let mut fits = lanes::sizes_fit(z, s.top);
-    let end = begins::lanes_below(fits, z.p);
-    let mut calm = true;
-    let mut i: usize = 0;
-    while i < end {
-        let l = s.lanes[i];
-        let o = l.op;
-        fits = logic::both(fits, lanes::lane_fits(z, l));
-        calm = logic::both(calm, lanes::idle(o));
-        i = i + 1;
-    }
-    if !fits {
+    if !s.fits() {
         return Scan::Unfit;
     }
-    if calm { Scan::AtRest } else { Scan::AtWork }
+    if at_rest(&s) {
+        Scan::AtRest
+    } else {
+        Scan::AtWork
+    }
 }
 
 impl Scan {

@@ -72,5 +72,5 @@ pub fn not_written_read(z: Terms, i: Cell) -> Next
 pub fn written_read(z: Terms, readings: &[u32], i: Cell) -> Next
     ensures { result ≡ written_read z readings.now i }
 {
-    Next::Read(look::word(readings, numbers::index_of(z, i)), true)
+    Next::Read(look::word(readings, numbers::index_of(z, i), 0), true)
 }

@@ -7,17 +7,11 @@ use super::Found;
 use lanes::Check;
 use numbers::{Cell, Mark, Place, Process, Terms};
 
-// The word at i, and the wide one; 0 outside the memory.
-pub fn word(a: &[u32], i: usize) -> u32
-    ensures { result ≡ get_or a.now i 0 }
+// The word at i of a memory of either width; outside it the one that is given.
+pub fn word<T: Copy>(a: &[T], i: usize, outside: T) -> T
+    ensures { result ≡ get_or a.now i outside }
 {
-    if i < a.len() { a[i] } else { 0 }
-}
-
-pub fn wide(a: &[u64], i: usize) -> u64
-    ensures { result ≡ get_or a.now i 0 }
-{
-    if i < a.len() { a[i] } else { 0 }
+    a.get(i).copied().unwrap_or(outside)
 }
 
 // Where the segment of place n of process q starts.
@@ -27,6 +21,7 @@ pub fn start_of(directory: &[u32], q: Process, n: Place) -> u32
     word(
         directory,
         numbers::directory_word(q, numbers::segment_of(n)),
+        0,
     )
 }
 
@@ -106,7 +101,7 @@ pub fn check(
     ensures { result ≡ check z (handed seen) links.now directory.now pool.now i c }
 {
     match c {
-        Check::Link => Some(check_link(z.p, wide(links, numbers::index_of(z, i)))),
+        Check::Link => Some(check_link(z.p, word(links, numbers::index_of(z, i), 0))),
         Check::Marks(w) => Some(check_marks(seen, w)),
         Check::Directory(w) => {
             let start = start_of(directory, numbers::process_of(w), numbers::place_of(w));

@@ -7,19 +7,12 @@ ghost use Rattle.steps.specs.Changes.{memory_after};
 use super::{Change, look};
 use numbers::{Mark, Place};
 
-pub fn put(a: &mut [u32], i: usize, v: u32)
+// The word at i of a memory of either width; outside it nothing is stored.
+pub fn put<T: Copy>(a: &mut [T], i: usize, v: T)
     ensures { a.new ≡ set a.old i v }
 {
     if i < a.len() {
         a[i] = v;
-    }
-}
-
-pub fn put_wide(a: &mut [u64], i: usize, w: u64)
-    ensures { a.new ≡ set a.old i w }
-{
-    if i < a.len() {
-        a[i] = w;
     }
 }
 
@@ -47,7 +40,7 @@ pub fn store(
     match change {
         Change::Nothing => {}
         Change::Reading(i, v) => put(readings, i, v),
-        Change::Link(i, w) => put_wide(links, i, w),
+        Change::Link(i, w) => put(links, i, w),
         Change::Directory(k, start) => put(directory, k, start),
         Change::Mark(start, n, mark) => put_mark(pool, start, n, mark),
         Change::Marks(_) => {}

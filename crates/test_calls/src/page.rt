@@ -11,7 +11,7 @@ pub fn room(input: &[u64], base: usize) -> usize
     ensures { result ≤ 4096 }
 {
     if words::at(input, base, 0) == TEXT {
-        numbers::least(words::at(input, base, 1) as usize, PAGE)
+        (words::at(input, base, 1) as usize).min(PAGE)
     } else {
         0
     }

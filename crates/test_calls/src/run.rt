@@ -41,10 +41,10 @@ fn on_parts(
     buf: &mut [u8],
     at: usize,
 ) -> usize {
-    let r = numbers::least(as_lent.readings.len, readings.len());
-    let l = numbers::least(as_lent.links.len, links.len());
-    let d = numbers::least(as_lent.directory.len, directory.len());
-    let p = numbers::least(as_lent.pool.len, pool.len());
+    let r = as_lent.readings.len.min(readings.len());
+    let l = as_lent.links.len.min(links.len());
+    let d = as_lent.directory.len.min(directory.len());
+    let p = as_lent.pool.len.min(pool.len());
     let fill = page::fill(input, base);
     let mut page = [fill; PAGE];
     let n = page::room(input, base);

@@ -23,7 +23,7 @@ pub fn many(
 ) -> Made {
     let mut narrow = [0u8; LIST];
     lists::bytes_of(kinds, &mut narrow);
-    let n = numbers::least(kinds.len(), LIST);
+    let n = kinds.len().min(LIST);
     let t = batch::run(
         s,
         &narrow[..n],
@@ -76,10 +76,10 @@ fn written(
     lists::bytes_of(kinds, &mut narrow);
     lists::bytes_of(processes, &mut owners);
     lists::halves_of(cells, &mut halves);
-    let k = numbers::least(kinds.len(), LIST);
-    let p = numbers::least(processes.len(), LIST);
-    let c = numbers::least(cells.len(), LIST);
-    let n = numbers::least(room, out.len());
+    let k = kinds.len().min(LIST);
+    let p = processes.len().min(LIST);
+    let c = cells.len().min(LIST);
+    let n = room.min(out.len());
     said(qhs_writer::write(
         h,
         &narrow[..k],

@@ -108,11 +108,11 @@ fn on_lists(
     match found {
         Listed::Damaged(f) => Went::Damaged(f),
         Listed::Lists(listed) => {
-            let k = numbers::least(listed.kinds.len, LIST);
-            let p = numbers::least(listed.processes.len, LIST);
-            let c = numbers::least(listed.cells.len, LIST);
-            let v = numbers::least(listed.values.len, LIST);
-            let l = numbers::least(listed.last.len, LAST);
+            let k = listed.kinds.len.min(LIST);
+            let p = listed.processes.len.min(LIST);
+            let c = listed.cells.len.min(LIST);
+            let v = listed.values.len.min(LIST);
+            let l = listed.last.len.min(LAST);
             let e = called(
                 rt,
                 input,
@@ -149,10 +149,10 @@ fn on_parts(
     buf: &mut [u8],
     at: usize,
 ) -> Went {
-    let r = numbers::least(as_lent.readings.len, readings.len());
-    let l = numbers::least(as_lent.links.len, links.len());
-    let d = numbers::least(as_lent.directory.len, directory.len());
-    let p = numbers::least(as_lent.pool.len, pool.len());
+    let r = as_lent.readings.len.min(readings.len());
+    let l = as_lent.links.len.min(links.len());
+    let d = as_lent.directory.len.min(directory.len());
+    let p = as_lent.pool.len.min(pool.len());
     on_lists(
         rt,
         input,

@@ -70,7 +70,7 @@ fn lent_at(input: &[u64], base: usize, most: usize, narrow: bool) -> Lending {
 // The exceptions' indices rise below the length, and their words fit.
 fn exceptions_seen(input: &[u64], base: usize, l: Lent, narrow: bool) -> Seen {
     let len = l.len as u64;
-    let end = numbers::least(l.exceptions, input.len() / 2);
+    let end = l.exceptions.min(input.len() / 2);
     let mut low: u64 = 0;
     let mut k: usize = 0;
     while k < end {
@@ -129,7 +129,7 @@ pub fn lent_first(input: &[u64], base: usize, first: u64, last: u64) -> Lending 
 // ---- words of 32 bits
 
 fn fill32(memory: &mut [u32], len: usize, w: u32) {
-    let end = numbers::least(len, memory.len());
+    let end = len.min(memory.len());
     let mut i: usize = 0;
     while i < end {
         memory[i] = w;
@@ -145,7 +145,7 @@ fn set32(memory: &mut [u32], i: usize, w: u32) {
 
 fn place32(input: &[u64], base: usize, l: Lent, memory: &mut [u32]) {
     fill32(memory, l.len, low32(l.fill));
-    let end = numbers::least(l.exceptions, input.len() / 2);
+    let end = l.exceptions.min(input.len() / 2);
     let mut k: usize = 0;
     while k < end {
         let i = words::at(input, base, 3 + 2 * k) as usize;
@@ -173,7 +173,7 @@ pub fn lend32(input: &[u64], before: Lending, memory: &mut [u32]) -> Lending {
 // ---- words of 64 bits
 
 fn fill64(memory: &mut [u64], len: usize, w: u64) {
-    let end = numbers::least(len, memory.len());
+    let end = len.min(memory.len());
     let mut i: usize = 0;
     while i < end {
         memory[i] = w;
@@ -189,7 +189,7 @@ fn set64(memory: &mut [u64], i: usize, w: u64) {
 
 fn place64(input: &[u64], base: usize, l: Lent, memory: &mut [u64]) {
     fill64(memory, l.len, l.fill);
-    let end = numbers::least(l.exceptions, input.len() / 2);
+    let end = l.exceptions.min(input.len() / 2);
     let mut k: usize = 0;
     while k < end {
         let i = words::at(input, base, 3 + 2 * k) as usize;

@@ -109,7 +109,7 @@ fn swap_turn(z: Terms, q: Process, links: &[u64], i: Cell, w: u64, n: Place) -> 
     ensures { result ≡ swap_turn z q.0 links.now i w n }
 {
     let at = numbers::index_of(z, i);
-    let is = look::wide(links, at);
+    let is = look::word(links, at, 0);
     if is == w {
         super::makes(Change::Link(at, numbers::link_of(q, n)), Next::Written)
     } else {

@@ -12,8 +12,8 @@ returns-then-not-lengths_fit c = search (judged_8)
 pub returns-then-z-q : goal.returns-then-z-q
 returns-then-z-q c = search (judged_4)
 
-pub returns-then-idle : goal.returns-then-idle
-returns-then-idle c = search (judged_7)
+pub returns-then-is_idle : goal.returns-then-is_idle
+returns-then-is_idle c = search (judged_7)
 
 pub decided-requires : goal.decided-requires
 decided-requires c =

@@ -8,8 +8,8 @@ returns-then-not-fits c = search (begun_9)
 pub returns-then-z-q : goal.returns-then-z-q
 returns-then-z-q c = search (begun_4)
 
-pub returns-then-not-idle : goal.returns-then-not-idle
-returns-then-not-idle c = search (begun_6)
+pub returns-then-not-is_idle : goal.returns-then-not-is_idle
+returns-then-not-is_idle c = search (begun_6)
 
 pub returns-then-not-cell_fits : goal.returns-then-not-cell_fits
 returns-then-not-cell_fits c = search (begun_5)
