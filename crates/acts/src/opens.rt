@@ -1,43 +1,26 @@
 // Opening: the refusals, and the state that a grid starts from.
 ghost use Rattle.std.specs.Prelude.{◌≡◌};
-ghost use Rattle.steps.specs.Memory.{memory};
+ghost use Rattle.steps.specs.Memory.{words};
 ghost use Rattle.acts.specs.Calls.{lengths_fit, opening_of, fresh};
 
 use super::Opened;
 use lanes::{Lane, Op, State};
-use numbers::{LANES, Mark, Terms};
+use numbers::{LANES, Terms};
 use refusals::Refusal;
+use steps::Lent;
 
 // Whether the lent memories have the lengths of these terms.
-pub fn lengths_fit(
-    z: Terms,
-    readings: &[u32],
-    links: &[u64],
-    directory: &[u32],
-    pool: &[Mark],
-) -> bool
-    ensures { result ≡ lengths_fit z (memory readings.now links.now directory.now pool.now) }
+pub fn lengths_fit(z: Terms, lent: Lent<'_>) -> bool
+    ensures { result ≡ lengths_fit z (words lent.entry) }
 {
-    if readings.len() != z.m as usize {
-        return false;
-    }
-    if links.len() != z.m as usize {
-        return false;
-    }
-    if directory.len() != numbers::directory_words(z.p) {
-        return false;
-    }
-    pool.len() == numbers::pool_words(z.p, z.m)
+    lent.readings.len() == z.m as usize
+        && lent.links.len() == z.m as usize
+        && lent.directory.len() == numbers::directory_words(z.p)
+        && lent.pool.len() == numbers::pool_words(z.p, z.m)
 }
 
-pub fn opening_of(
-    z: Terms,
-    readings: &[u32],
-    links: &[u64],
-    directory: &[u32],
-    pool: &[Mark],
-) -> Result<(), Refusal>
-    ensures { result ≡ opening_of z (memory readings.now links.now directory.now pool.now) }
+pub fn opening_of(z: Terms, lent: Lent<'_>) -> Result<(), Refusal>
+    ensures { result ≡ opening_of z (words lent.entry) }
 {
     if !numbers::processes_fit(z.p) {
         return Err(Refusal::ProcessCount);
@@ -45,7 +28,7 @@ pub fn opening_of(
     if !numbers::cells_fit(z.m) {
         return Err(Refusal::CellCount);
     }
-    if !lengths_fit(z, readings, links, directory, pool) {
+    if !lengths_fit(z, lent) {
         return Err(Refusal::LentLength);
     }
     Ok(())

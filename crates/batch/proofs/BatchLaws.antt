@@ -163,111 +163,97 @@ few_entries kinds processes cells values answers =
     record { in_kinds = omega arith; in_processes = omega arith; in_cells = omega arith; in_values = omega arith; in_answers = omega arith }
 
 -- what the loop keeps
-pub record Going (kinds₀ processes₀ cells₀ values₀ answers₀ readings₀ links₀ directory₀ pool₀ : List ℕ) (s : State) (fits : Bool) (n : ℕ)
-    (answers readings links directory pool : List ℕ) (t : State) (i : ℕ) : Type 0 where
+pub record Going (kinds₀ processes₀ cells₀ values₀ answers₀ : List ℕ) (mem₀ : Memory) (s : State) (fits : Bool) (n : ℕ)
+    (answers : List ℕ) (mem : Memory) (t : State) (i : ℕ) : Type 0 where
   pub at : i ≤ n
   pub few : Few n kinds₀ processes₀ cells₀ values₀ answers₀
   pub number : n ≡ entries kinds₀ processes₀ cells₀ values₀ answers₀
   pub same_answers : length answers ≡ length answers₀
-  pub same_readings : length readings ≡ length readings₀
-  pub same_links : length links ≡ length links₀
-  pub same_directory : length directory ≡ length directory₀
-  pub same_pool : length pool ≡ length pool₀
   pub terms : t.terms ≡ s.terms
   pub fine : fits ≡ state_fits t
-  pub done : Done kinds₀ processes₀ cells₀ values₀ s (memory readings₀ links₀ directory₀ pool₀) answers₀ i
-      (batch t (memory readings links directory pool) answers)
-  pub back : Back kinds₀ processes₀ cells₀ values₀ s (memory readings₀ links₀ directory₀ pool₀) answers₀ i answers
+  pub done : Done kinds₀ processes₀ cells₀ values₀ s mem₀ answers₀ i
+      (batch t mem answers)
+  pub back : Back kinds₀ processes₀ cells₀ values₀ s mem₀ answers₀ i answers
 
-module _ (kinds processes cells values answers₀ readings₀ links₀ directory₀ pool₀ : List ℕ) (s : State) (fits : Bool) (n : ℕ) where
+module _ (kinds processes cells values answers₀ : List ℕ) (mem₀ : Memory) (s : State) (fits : Bool) (n : ℕ) where
   pub going_start : n ≡ entries kinds processes cells values answers₀ → fits ≡ state_fits s
-      → Going kinds processes cells values answers₀ readings₀ links₀ directory₀ pool₀ s fits n answers₀ readings₀ links₀ directory₀ pool₀ s 0
+      → Going kinds processes cells values answers₀ mem₀ s fits n answers₀ mem₀ s 0
   going_start e f = record {
     at = omega arith;
     few = rw e (few_entries kinds processes cells values answers₀);
     number = e;
     same_answers = refl;
-    same_readings = refl;
-    same_links = refl;
-    same_directory = refl;
-    same_pool = refl;
     terms = refl;
     fine = f;
-    done = done_none kinds processes cells values s (memory readings₀ links₀ directory₀ pool₀) answers₀;
-    back = back_none kinds processes cells values s (memory readings₀ links₀ directory₀ pool₀) answers₀;
+    done = done_none kinds processes cells values s mem₀ answers₀;
+    back = back_none kinds processes cells values s mem₀ answers₀;
   }
 
-  module _ (answers readings links directory pool : List ℕ) (t : State) (i : ℕ)
-      (G : Going kinds processes cells values answers₀ readings₀ links₀ directory₀ pool₀ s fits n answers readings links directory pool t i) where
+  module _ (answers : List ℕ) (mem : Memory) (t : State) (i : ℕ)
+      (G : Going kinds processes cells values answers₀ mem₀ s fits n answers mem t i) where
     -- what entry i does, by given terms
-    abbrev Does : Terms → (k j : ℕ) (b : Acted) (readings' links' directory' pool' : List ℕ) → Type 0
-    Does z k j b readings' links' directory' pool' =
-        effect b (memory readings' links' directory' pool')
+    abbrev Does : Terms → (k j : ℕ) (b : Acted) (mem' : Memory) → Type 0
+    Does z k j b mem' =
+        effect b mem'
         ≡ entry_of fits z t.top (get_or processes i 0) (lane_of t k) (lane_of t j).marks (get_or kinds i 0)
-        (record { 0 = get_or cells i 0 }) (get_or values i 0) (memory readings links directory pool)
+        (record { 0 = get_or cells i 0 }) (get_or values i 0) mem
 
-    own_terms : (k j : ℕ) (b : Acted) (readings' links' directory' pool' : List ℕ) → Does s.terms k j b readings' links' directory' pool'
-        → Does t.terms k j b readings' links' directory' pool'
-    own_terms k j b readings' links' directory' pool' f = rw G.terms f
+    own_terms : (k j : ℕ) (b : Acted) (mem' : Memory) → Does s.terms k j b mem'
+        → Does t.terms k j b mem'
+    own_terms k j b mem' f = rw G.terms f
 
-    pub going_more : (answers' readings' links' directory' pool' : List ℕ) (t' : State) (k j code : ℕ) (b : Acted)
+    pub going_more : (answers' : List ℕ) (mem' : Memory) (t' : State) (k j code : ℕ) (b : Acted)
         → t' ≡ (stepped_as t k b).state → i < n → k ≡ lane_at (get_or processes i 0) → j ≡ lane_at (named (lane_of t k).op)
-        → Does s.terms k j b readings' links' directory' pool'
-        → (code ≡ code_of b.answer) × (answer_of code ≡ b.answer) → answers' ≡ set answers i code → length readings' ≡ length readings
-        → length links' ≡ length links → length directory' ≡ length directory → length pool' ≡ length pool
-        → Going kinds processes cells values answers₀ readings₀ links₀ directory₀ pool₀ s fits n answers' readings' links' directory' pool' t' (i + 1)
-    going_more answers' readings' links' directory' pool' t' k j code b et low at from f g ea er el ed ep = rw (ea, et) (record {
+        → Does s.terms k j b mem'
+        → (code ≡ code_of b.answer) × (answer_of code ≡ b.answer) → answers' ≡ set answers i code
+        → Going kinds processes cells values answers₀ mem₀ s fits n answers' mem' t' (i + 1)
+    going_more answers' mem' t' k j code b et low at from f g ea = rw (ea, et) (record {
       at = omega arith;
       few = G.few;
       number = G.number;
       same_answers = length-set answers i code ∙ G.same_answers;
-      same_readings = er ∙ G.same_readings;
-      same_links = el ∙ G.same_links;
-      same_directory = ed ∙ G.same_directory;
-      same_pool = ep ∙ G.same_pool;
       terms = G.terms;
       fine =
           G.fine
           ∙ sym
           (ap (λ (x : Outcome). state_fits x.stepped.state) out
-          ∙ entered_keeps t (memory readings links directory pool) (get_or kinds i 0) (get_or processes i 0) (record { 0 = get_or cells i 0 })
+          ∙ entered_keeps t mem (get_or kinds i 0) (get_or processes i 0) (record { 0 = get_or cells i 0 })
           (get_or values i 0));
-      done = done_more kinds processes cells values s (memory readings₀ links₀ directory₀ pool₀) answers₀ i t (memory readings links directory pool)
-          (memory readings' links' directory' pool') answers k (get_or processes i 0) (get_or kinds i 0) (get_or values i 0) code
+      done = done_more kinds processes cells values s mem₀ answers₀ i t mem
+          mem' answers k (get_or processes i 0) (get_or kinds i 0) (get_or values i 0) code
           (record { 0 = get_or cells i 0 }) b
           G.done refl refl refl refl out g.0;
-      back = back_more kinds processes cells values s (memory readings₀ links₀ directory₀ pool₀) answers₀ i code answers
+      back = back_more kinds processes cells values s mem₀ answers₀ i code answers
           (let a = G.few.in_answers in let b = G.same_answers in omega arith) G.back (g.1 ∙ given);
     })
       where
-        out : outcome (stepped_as t k b) (memory readings' links' directory' pool')
-            ≡ entered t (memory readings links directory pool) (get_or kinds i 0) (get_or processes i 0) (record { 0 = get_or cells i 0 }) (get_or values i 0)
-        out = entry_is t (get_or processes i 0) k at j from fits G.fine (memory readings links directory pool) (memory readings' links' directory' pool')
-            (get_or kinds i 0) (record { 0 = get_or cells i 0 }) (get_or values i 0) b (own_terms k j b readings' links' directory' pool' f)
+        out : outcome (stepped_as t k b) mem'
+            ≡ entered t mem (get_or kinds i 0) (get_or processes i 0) (record { 0 = get_or cells i 0 }) (get_or values i 0)
+        out = entry_is t (get_or processes i 0) k at j from fits G.fine mem mem'
+            (get_or kinds i 0) (record { 0 = get_or cells i 0 }) (get_or values i 0) b (own_terms k j b mem' f)
 
-        given : b.answer ≡ answer_at kinds processes cells values (batch s (memory readings₀ links₀ directory₀ pool₀) answers₀) i
+        given : b.answer ≡ answer_at kinds processes cells values (batch s mem₀ answers₀) i
         given = ap (λ (x : Outcome). x.stepped.answer) out ∙ ap (λ (x : Batch). (entering kinds processes cells values x i).stepped.answer) G.done
 
     -- a refused entry: the state stays
-    pub going_kept : (answers' readings' links' directory' pool' : List ℕ) (k j code : ℕ) (b : Acted) (r : Bool) → r ≡ is_ok b.answer → r ≡ false → i < n
+    pub going_kept : (answers' : List ℕ) (mem' : Memory) (k j code : ℕ) (b : Acted) (r : Bool) → r ≡ is_ok b.answer → r ≡ false → i < n
         → k ≡ lane_at (get_or processes i 0) → j ≡ lane_at (named (lane_of t k).op)
-        → Does s.terms k j b readings' links' directory' pool'
-        → (code ≡ code_of b.answer) × (answer_of code ≡ b.answer) → answers' ≡ set answers i code → length readings' ≡ length readings
-        → length links' ≡ length links → length directory' ≡ length directory → length pool' ≡ length pool
-        → Going kinds processes cells values answers₀ readings₀ links₀ directory₀ pool₀ s fits n answers' readings' links' directory' pool' t (i + 1)
-    going_kept answers' readings' links' directory' pool' k j code b r is stays low at from f =
-        going_more answers' readings' links' directory' pool' t k j code b
-        (entry_kept t (get_or processes i 0) k at j from fits G.fine (memory readings links directory pool) (memory readings' links' directory' pool')
-        (get_or kinds i 0) (record { 0 = get_or cells i 0 }) (get_or values i 0) b (own_terms k j b readings' links' directory' pool' f) r is stays)
+        → Does s.terms k j b mem'
+        → (code ≡ code_of b.answer) × (answer_of code ≡ b.answer) → answers' ≡ set answers i code
+        → Going kinds processes cells values answers₀ mem₀ s fits n answers' mem' t (i + 1)
+    going_kept answers' mem' k j code b r is stays low at from f =
+        going_more answers' mem' t k j code b
+        (entry_kept t (get_or processes i 0) k at j from fits G.fine mem mem'
+        (get_or kinds i 0) (record { 0 = get_or cells i 0 }) (get_or values i 0) b (own_terms k j b mem' f) r is stays)
         low at from f
 
     pub going_end : n ≤ i
-        → (batch t (memory readings links directory pool) answers ≡ batch_of s (memory readings₀ links₀ directory₀ pool₀) answers₀ kinds processes cells values)
-        × Back kinds processes cells values s (memory readings₀ links₀ directory₀ pool₀) answers₀ (entries kinds processes cells values answers₀) answers
+        → (batch t mem answers ≡ batch_of s mem₀ answers₀ kinds processes cells values)
+        × Back kinds processes cells values s mem₀ answers₀ (entries kinds processes cells values answers₀) answers
     unfolding batch_of
     going_end h =
         let e : i ≡ entries kinds processes cells values answers₀ = let a = G.at in let b = G.number in omega arith in
-        (G.done ∙ ap (after kinds processes cells values (batch s (memory readings₀ links₀ directory₀ pool₀) answers₀)) e, rw (← e) G.back)
+        (G.done ∙ ap (after kinds processes cells values (batch s mem₀ answers₀)) e, rw (← e) G.back)
 
 pub entries_are : (kinds processes cells values answers : List ℕ) (a b c n : ℕ) → a ≡ min (length kinds) (length processes)
     → b ≡ min (length cells) (length values) → c ≡ min a b → n ≡ min c (length answers) → n ≡ entries kinds processes cells values answers

@@ -2,15 +2,16 @@
 #![tactic(auto)]
 
 ghost use Rattle.std.specs.Prelude.{◌≡◌, ◌<◌, Ok};
-ghost use Rattle.steps.specs.Memory.{memory};
+ghost use Rattle.steps.specs.Memory.{words_mut, SameLent};
 ghost use Rattle.acts.specs.Calls.{op_of, effect};
 ghost use Rattle.acts.specs.Inner.{Judged};
 ghost use Rattle.batch.specs.Batch.{bit, count_of, code_with, code_of, answer_of, beginning, ask_of, entry_of, batch, entries, batch_of, Told};
 
 use acts::{Acted, Answer, begins};
 use lanes::{Check, Lane, Op, State};
-use numbers::{Cell, Mark, Process, Terms};
+use numbers::{Cell, Process, Terms};
 use refusals::Refusal;
+use steps::LentMut;
 
 fn code(kind: u64, count: u32, value: u32) -> u64
     requires { (kind < 256) × (count < 16777216) }
@@ -102,20 +103,18 @@ fn entry(
     kind: u8,
     i: Cell,
     v: u32,
-    readings: &mut [u32],
-    links: &mut [u64],
-    directory: &mut [u32],
-    pool: &mut [Mark],
+    lent: &mut LentMut<'_>,
 ) -> Acted
     requires { Judged fits z top q.0 l seen }
-    ensures { effect result (memory readings.new links.new directory.new pool.new)
-        ≡ entry_of fits z top q.0 l seen kind i v (memory readings.old links.old directory.old pool.old) }
+    ensures same { SameLent lent.old lent.new }
+    ensures done { effect result (words_mut lent.new)
+        ≡ entry_of fits z top q.0 l seen kind i v (words_mut lent.old) }
 {
     if beginning(kind) {
         let o = op_of(kind, i, v);
         return begins::begun(fits, z, top, q, l, i, o);
     }
-    judged::act(fits, z, top, q, l, seen, readings, links, directory, pool)
+    judged::act(fits, z, top, q, l, seen, lent)
 }
 
 // As many entries as the shortest list has, each on the state and the memories that the one before it left. Every call keeps a
@@ -127,14 +126,12 @@ pub fn run(
     cells: &[u32],
     values: &[u32],
     answers: &mut [u64],
-    readings: &mut [u32],
-    links: &mut [u64],
-    directory: &mut [u32],
-    pool: &mut [Mark],
+    lent: &mut LentMut<'_>,
 ) -> State
-    ensures done { batch result (memory readings.new links.new directory.new pool.new) answers.new
-        ≡ batch_of s (memory readings.old links.old directory.old pool.old) answers.old kinds.now processes.now cells.now values.now }
-    ensures told { Told kinds.now processes.now cells.now values.now (batch s (memory readings.old links.old directory.old pool.old) answers.old)
+    ensures same { SameLent lent.old lent.new }
+    ensures done { batch result (words_mut lent.new) answers.new
+        ≡ batch_of s (words_mut lent.old) answers.old kinds.now processes.now cells.now values.now }
+    ensures told { Told kinds.now processes.now cells.now values.now (batch s (words_mut lent.old) answers.old)
         (entries kinds.now processes.now cells.now values.now answers.old) answers.new }
 {
     let mut t = s;
@@ -166,10 +163,7 @@ pub fn run(
             kind,
             Cell(cell),
             value,
-            readings,
-            links,
-            directory,
-            pool,
+            lent,
         );
         let answer = b.answer;
         steps::store::put(answers, i, code_of(answer));

@@ -2,12 +2,13 @@
 #![tactic(auto)]
 
 ghost use Rattle.std.specs.Prelude.{◌≡◌};
-ghost use Rattle.steps.specs.Memory.{memory};
+ghost use Rattle.steps.specs.Memory.{words, words_mut, SameLent};
 ghost use Rattle.acts.specs.Calls.{outcome, open_of, begin_of, step_of};
 
 use acts::{Ask, Opened, Stepped, begins, opens};
 use lanes::State;
-use numbers::{Mark, Process, Terms};
+use numbers::{Process, Terms};
+use steps::{Lent, LentMut};
 
 // What a refused open leaves: terms that no call takes.
 const CLOSED: Terms = Terms {
@@ -18,10 +19,10 @@ const CLOSED: Terms = Terms {
 };
 
 // Opens a grid in lent memory of any content: only the lengths are looked at.
-pub fn open(z: Terms, readings: &[u32], links: &[u64], directory: &[u32], pool: &[Mark]) -> Opened
-    ensures { result ≡ open_of z (memory readings.now links.now directory.now pool.now) }
+pub fn open(z: Terms, lent: Lent<'_>) -> Opened
+    ensures { result ≡ open_of z (words lent.entry) }
 {
-    match opens::opening_of(z, readings, links, directory, pool) {
+    match opens::opening_of(z, lent) {
         Ok(()) => opens::opened(z, Ok(())),
         Err(r) => opens::opened(CLOSED, Err(r)),
     }
@@ -52,15 +53,9 @@ pub fn begin(s: State, q: Process, a: Ask) -> Stepped
 
 // One step of process q. The state is copied once, into `t`, and changed there; no other function takes it. The lane is taken
 // late, as in `begin`, and a refusal leaves it where it is.
-pub fn step(
-    s: State,
-    q: Process,
-    readings: &mut [u32],
-    links: &mut [u64],
-    directory: &mut [u32],
-    pool: &mut [Mark],
-) -> Stepped
-    ensures { outcome result (memory readings.new links.new directory.new pool.new) ≡ step_of s q.0 (memory readings.old links.old directory.old pool.old) }
+pub fn step(s: State, q: Process, lent: &mut LentMut<'_>) -> Stepped
+    ensures same { SameLent lent.old lent.new }
+    ensures done { outcome result (words_mut lent.new) ≡ step_of s q.0 (words_mut lent.old) }
 {
     let mut t = s;
     let z = t.terms;
@@ -70,18 +65,7 @@ pub fn step(
     let o = l.op;
     let j = begins::lane_of(judged::named(o));
     let other = t.lanes[j];
-    let b = judged::act(
-        fits,
-        z,
-        t.top,
-        q,
-        l,
-        other.marks,
-        readings,
-        links,
-        directory,
-        pool,
-    );
+    let b = judged::act(fits, z, t.top, q, l, other.marks, lent);
     let answer = b.answer;
     if answer.is_ok() {
         let lane = b.lane;

@@ -2,7 +2,6 @@
 -- Assumes nothing.
 use Rattle.std.specs.Prelude.{Option, Ok, Err}
 use mathlib.Core.Path.{◌≡◌, refl, sym, ap, ◌∙◌}
-use mathlib.Core.List.{List}
 use mathlib.Core.Bool.{Bool, true, false, not}
 use Prim.Native.Nat.{ℕ, ◌<◌, ◌≤◌}
 use native.Mathlib.Omega.{arith}
@@ -16,7 +15,7 @@ use Rattle.lanes.specs.declared.Lane.{Lane}
 use Rattle.lanes.specs.Ranges.{idle, lane_fits, sizes_fit}
 use Rattle.lanes.specs.Laws.{lane_steps}
 use Rattle.steps.specs.declared.Turn.{Turn}
-use Rattle.steps.specs.Memory.{Memory, memory}
+use Rattle.steps.specs.Memory.{Memory}
 use Rattle.steps.specs.Steps.{turn_of}
 use Rattle.acts.specs.Calls.{Verdict, lengths_fit, decided, verdict_of}
 use Rattle.acts.specs.Inner.{Judged}
@@ -60,10 +59,9 @@ module _ (fits : Bool) (z : Terms) (top q : ℕ) (l : Lane) (seen : ℕ) (j : Ju
   pub lane_known : q < z.p → lane_fits z l ≡ true
   lane_known h = j.lane (not-false _ fine) h
 
-  pub told_known : (readings links directory pool : List ℕ) (t : Option Turn) → q < z.p
-      → t ≡ turn_of z top q l (handed seen) (memory readings links directory pool) → Told z top l t
-  told_known readings links directory pool t h e =
-      told z top l sizes_known (lane_known h) q seen (memory readings links directory pool) t (j.marks (not-false _ fine) h) e
+  pub told_known : (mem : Memory) (t : Option Turn) → q < z.p → t ≡ turn_of z top q l (handed seen) mem → Told z top l t
+  told_known mem t h e =
+      told z top l sizes_known (lane_known h) q seen mem t (j.marks (not-false _ fine) h) e
 
 -- a step that moves had a lane in its range
 pub moved_fits : (fits : Bool) (z : Terms) (top q : ℕ) (l : Lane) (mem : Memory) (t : Option Turn) (u : Turn) (seen : ℕ) (v : Verdict)

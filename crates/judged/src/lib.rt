@@ -3,7 +3,7 @@
 
 ghost use Rattle.std.specs.Prelude.{◌≡◌, ◌≤◌};
 ghost use Rattle.numbers.specs.Numbers.{most_steps};
-ghost use Rattle.steps.specs.Memory.{memory};
+ghost use Rattle.steps.specs.Memory.{words, words_mut, SameLent};
 ghost use Rattle.steps.specs.Changes.{lane_after, top_after};
 ghost use Rattle.steps.specs.Steps.{turn_of};
 ghost use Rattle.steps.specs.Inner.{handed};
@@ -13,9 +13,9 @@ ghost use Rattle.judged.specs.Inner.{change_fits, marking_goes, op_goes, next_fi
 
 use acts::{Acted, Answer, begins, opens};
 use lanes::{Check, Lane, Marking, Op};
-use numbers::{Mark, Process, SEGMENTS, STEPS, Terms};
+use numbers::{Process, SEGMENTS, STEPS, Terms};
 use refusals::Refusal;
-use steps::{Change, Next, Turn};
+use steps::{Change, Lent, LentMut, Next, Turn};
 
 fn named_in(c: Check) -> Process
     ensures { result.0 ≡ named_in c }
@@ -143,19 +143,16 @@ fn verdict_of(
     q: Process,
     l: Lane,
     seen: u32,
-    readings: &[u32],
-    links: &[u64],
-    directory: &[u32],
-    pool: &[Mark],
+    lent: Lent<'_>,
 ) -> Result<Turn, Refusal>
     requires { Judged fits z top q.0 l seen }
-    ensures { result ≡ verdict_of fits z top q.0 l (memory readings.now links.now directory.now pool.now)
-        (turn_of z top q.0 l (handed seen) (memory readings.now links.now directory.now pool.now)) }
+    ensures { result ≡ verdict_of fits z top q.0 l (words lent.entry)
+        (turn_of z top q.0 l (handed seen) (words lent.entry)) }
 {
     if !fits {
         return Err(Refusal::OutOfRange);
     }
-    if !opens::lengths_fit(z, readings, links, directory, pool) {
+    if !opens::lengths_fit(z, lent) {
         return Err(Refusal::OtherLengths);
     }
     if z.p <= q.0 {
@@ -164,7 +161,7 @@ fn verdict_of(
     if l.op.is_idle() {
         return Err(Refusal::NothingUnderWay);
     }
-    let t = turns::turn_of(z, top, q, l, seen, readings, links, directory, pool);
+    let t = turns::turn_of(z, top, q, l, seen, lent);
     decided(z, top, l, t)
 }
 
@@ -187,20 +184,18 @@ pub fn act(
     q: Process,
     l: Lane,
     seen: u32,
-    readings: &mut [u32],
-    links: &mut [u64],
-    directory: &mut [u32],
-    pool: &mut [Mark],
+    lent: &mut LentMut<'_>,
 ) -> Acted
     requires { Judged fits z top q.0 l seen }
-    ensures { effect result (memory readings.new links.new directory.new pool.new)
-        ≡ act_of fits z top q.0 l (memory readings.old links.old directory.old pool.old)
-        (turn_of z top q.0 l (handed seen) (memory readings.old links.old directory.old pool.old)) }
+    ensures same { SameLent lent.old lent.new }
+    ensures done { effect result (words_mut lent.new)
+        ≡ act_of fits z top q.0 l (words_mut lent.old)
+        (turn_of z top q.0 l (handed seen) (words_mut lent.old)) }
 {
-    match verdict_of(fits, z, top, q, l, seen, readings, links, directory, pool) {
+    match verdict_of(fits, z, top, q, l, seen, lent.as_ref()) {
         Err(r) => begins::refused(l, top, r),
         Ok(t) => {
-            steps::store::store(readings, links, directory, pool, t.change);
+            steps::store::store(lent, t.change);
             moved(l, top, t)
         }
     }

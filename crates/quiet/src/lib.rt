@@ -3,13 +3,13 @@
 
 ghost use Rattle.std.specs.Prelude.{◌≡◌, true};
 ghost use Rattle.lanes.specs.Ranges.{state_fits};
-ghost use Rattle.steps.specs.Memory.{memory};
+ghost use Rattle.steps.specs.Memory.{words};
 ghost use Rattle.acts.specs.Inner.{named_in};
 ghost use Rattle.quiet.specs.Quiet.{marks_at, onward, looked_at, quarter_of, reading_as, reading_at, unfit, at_work, at_rest, scan_of};
 
 use lanes::{Check, State};
-use numbers::{Cell, Mark, PROCESSES};
-use steps::{Found, Next};
+use numbers::{Cell, PROCESSES};
+use steps::{Found, Lent, Next};
 
 // What a look at all the lanes shows.
 #[derive(Clone, Copy)]
@@ -87,46 +87,30 @@ fn seen_in(s: State, c: Check) -> u32
 }
 
 // One more step of a check that has not ended.
-fn onward(
-    s: State,
-    i: Cell,
-    links: &[u64],
-    directory: &[u32],
-    pool: &[Mark],
-    found: Option<Found>,
-) -> Option<Found>
-    ensures { result ≡ onward s i links.now directory.now pool.now found }
+fn onward(s: State, i: Cell, lent: Lent<'_>, found: Option<Found>) -> Option<Found>
+    ensures { result ≡ onward s i lent.entry.links.now lent.entry.directory.now lent.entry.pool.now found }
 {
     match found? {
-        Found::On(c) => steps::look::check(s.terms, seen_in(s, c), links, directory, pool, i, c),
+        Found::On(c) => steps::look::check(s.terms, seen_in(s, c), lent, i, c),
         ended => Some(ended),
     }
 }
 
 // The check of cell i, run to its end: four steps at the most. None where a word of it lies outside its memory.
-pub fn looked_at(
-    s: State,
-    i: Cell,
-    links: &[u64],
-    directory: &[u32],
-    pool: &[Mark],
-) -> Option<Found>
-    ensures { result ≡ looked_at s i links.now directory.now pool.now }
+pub fn looked_at(s: State, i: Cell, lent: Lent<'_>) -> Option<Found>
+    ensures { result ≡ looked_at s i lent.entry.links.now lent.entry.directory.now lent.entry.pool.now }
 {
-    let a = onward(s, i, links, directory, pool, Some(Found::On(Check::Link)));
-    let b = onward(s, i, links, directory, pool, a);
-    let c = onward(s, i, links, directory, pool, b);
-    onward(s, i, links, directory, pool, c)
+    let a = onward(s, i, lent, Some(Found::On(Check::Link)));
+    let b = onward(s, i, lent, a);
+    let c = onward(s, i, lent, b);
+    onward(s, i, lent, c)
 }
 
 fn quarter_of(n: Next) -> Option<Quarter>
     ensures { result ≡ quarter_of n }
 {
     match n {
-        Next::Read(reading, written) => Some(Quarter {
-            reading,
-            written,
-        }),
+        Next::Read(reading, written) => Some(Quarter { reading, written }),
         _ => None,
     }
 }
@@ -143,16 +127,9 @@ fn reading_as(s: State, i: Cell, readings: &[u32], found: Option<Found>) -> Opti
 
 // The read of cell i, run to its end: by the filling rule where it is not written. None where a word of its check lies outside its
 // memory.
-pub fn reading_at(
-    s: State,
-    i: Cell,
-    readings: &[u32],
-    links: &[u64],
-    directory: &[u32],
-    pool: &[Mark],
-) -> Option<Quarter>
-    ensures { result ≡ reading_at s i (memory readings.now links.now directory.now pool.now) }
+pub fn reading_at(s: State, i: Cell, lent: Lent<'_>) -> Option<Quarter>
+    ensures { result ≡ reading_at s i (words lent.entry) }
 {
-    let found = looked_at(s, i, links, directory, pool);
-    reading_as(s, i, readings, found)
+    let found = looked_at(s, i, lent);
+    reading_as(s, i, lent.readings, found)
 }

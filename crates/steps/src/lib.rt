@@ -4,8 +4,11 @@
 ghost use Rattle.std.specs.Prelude.{◌≡◌};
 ghost use Rattle.steps.specs.Steps.{not_written_read, written_read};
 
+mod lent;
 pub mod look;
 pub mod store;
+
+pub use lent::{Lent, LentMut};
 
 use lanes::{Check, Op};
 use numbers::{Cell, Mark, Place, Terms};

@@ -3,7 +3,7 @@ ghost use Rattle.std.specs.Prelude.{◌≡◌, ◌<◌, get_or};
 ghost use Rattle.steps.specs.Steps.{check_link, check_marks, check_mark, check, start_of, pool_word};
 ghost use Rattle.steps.specs.Inner.{handed, word_in, Part};
 
-use super::Found;
+use super::{Found, Lent};
 use lanes::Check;
 use numbers::{Cell, Mark, Place, Process, Terms};
 
@@ -92,23 +92,21 @@ fn check_mark(own: Mark, w: u64, mark: Option<Mark>) -> Option<Found>
 pub fn check(
     z: Terms,
     seen: u32,
-    links: &[u64],
-    directory: &[u32],
-    pool: &[Mark],
+    lent: Lent<'_>,
     i: Cell,
     c: Check,
 ) -> Option<Found>
-    ensures { result ≡ check z (handed seen) links.now directory.now pool.now i c }
+    ensures { result ≡ check z (handed seen) lent.entry.links.now lent.entry.directory.now lent.entry.pool.now i c }
 {
     match c {
-        Check::Link => Some(check_link(z.p, word(links, numbers::index_of(z, i), 0))),
+        Check::Link => Some(check_link(z.p, word(lent.links, numbers::index_of(z, i), 0))),
         Check::Marks(w) => Some(check_marks(seen, w)),
         Check::Directory(w) => {
-            let start = start_of(directory, numbers::process_of(w), numbers::place_of(w));
+            let start = start_of(lent.directory, numbers::process_of(w), numbers::place_of(w));
             Some(Found::On(Check::Mark(start, w)))
         }
         Check::Mark(start, w) => {
-            let mark = pool_word(pool, start, numbers::place_of(w));
+            let mark = pool_word(lent.pool, start, numbers::place_of(w));
             check_mark(numbers::mark_of(i), w, mark)
         }
     }

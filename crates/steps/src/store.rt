@@ -1,10 +1,10 @@
 // A change of one shared word, stored into the lent memories.
 ghost use Rattle.std.specs.Prelude.{◌≡◌, ◌+◌, set};
 ghost use Rattle.numbers.specs.Numbers.{offset_of};
-ghost use Rattle.steps.specs.Memory.{memory};
+ghost use Rattle.steps.specs.Memory.{words_mut, SameLent};
 ghost use Rattle.steps.specs.Changes.{memory_after};
 
-use super::{Change, look};
+use super::{Change, LentMut, look};
 use numbers::{Mark, Place};
 
 // The word at i of a memory of either width; outside it nothing is stored.
@@ -28,22 +28,15 @@ fn put_mark(pool: &mut [Mark], start: u32, n: Place, mark: Mark)
 }
 
 // The lent memories after a change.
-pub fn store(
-    readings: &mut [u32],
-    links: &mut [u64],
-    directory: &mut [u32],
-    pool: &mut [Mark],
-    change: Change,
-)
-    ensures { memory readings.new links.new directory.new pool.new ≡ memory_after change (memory readings.old links.old directory.old pool.old) }
+pub fn store(lent: &mut LentMut<'_>, change: Change)
+    ensures same { SameLent lent.old lent.new }
+    ensures stored { words_mut lent.new ≡ memory_after change (words_mut lent.old) }
 {
     match change {
-        Change::Nothing => {}
-        Change::Reading(i, v) => put(readings, i, v),
-        Change::Link(i, w) => put(links, i, w),
-        Change::Directory(k, start) => put(directory, k, start),
-        Change::Mark(start, n, mark) => put_mark(pool, start, n, mark),
-        Change::Marks(_) => {}
-        Change::Top(_, _) => {}
+        Change::Reading(i, v) => put(lent.readings, i, v),
+        Change::Link(i, w) => put(lent.links, i, w),
+        Change::Directory(k, start) => put(lent.directory, k, start),
+        Change::Mark(start, n, mark) => put_mark(lent.pool, start, n, mark),
+        Change::Nothing | Change::Marks(_) | Change::Top(_, _) => {}
     }
 }

@@ -2,15 +2,16 @@
 #![tactic(auto)]
 
 ghost use Rattle.std.specs.Prelude.{◌≡◌, ◌+◌, ◌/◌, ◌<◌, Some};
-ghost use Rattle.steps.specs.Memory.{memory};
+ghost use Rattle.steps.specs.Memory.{words};
 ghost use Rattle.summary.specs.Summary.{greater, four_from, quarters, written_among, summary_of};
 ghost use Rattle.summary.specs.Inner.{Few, Counts, Mean, hour_from, summed, summary_as, four};
 
 use acts::opens;
 use lanes::State;
-use numbers::{Cell, Mark};
+use numbers::Cell;
 use quiet::Quarter;
 use refusals::Refusal;
+use steps::Lent;
 
 #[derive(Clone, Copy)]
 pub struct Hour {
@@ -85,41 +86,27 @@ fn summed(a: Quarter, b: Quarter, c: Quarter, d: Quarter) -> Result<Hour, Refusa
 }
 
 // All four are looked at before it is said that none is written.
-fn quarters(
-    s: State,
-    i: u32,
-    readings: &[u32],
-    links: &[u64],
-    directory: &[u32],
-    pool: &[Mark],
-) -> Result<Hour, Refusal>
+fn quarters(s: State, i: u32, lent: Lent<'_>) -> Result<Hour, Refusal>
     requires { i + 3 < 4294967296 }
-    ensures { result ≡ summary_as (quarters s (memory readings.now links.now directory.now pool.now) (four_from i)) }
+    ensures { result ≡ summary_as (quarters s (words lent.entry) (four_from i)) }
 {
     let outside = Refusal::OutOfRange;
-    let a = quiet::reading_at(s, Cell(i), readings, links, directory, pool).ok_or(outside)?;
-    let b = quiet::reading_at(s, Cell(i + 1), readings, links, directory, pool).ok_or(outside)?;
-    let c = quiet::reading_at(s, Cell(i + 2), readings, links, directory, pool).ok_or(outside)?;
-    let d = quiet::reading_at(s, Cell(i + 3), readings, links, directory, pool).ok_or(outside)?;
+    let a = quiet::reading_at(s, Cell(i), lent).ok_or(outside)?;
+    let b = quiet::reading_at(s, Cell(i + 1), lent).ok_or(outside)?;
+    let c = quiet::reading_at(s, Cell(i + 2), lent).ok_or(outside)?;
+    let d = quiet::reading_at(s, Cell(i + 3), lent).ok_or(outside)?;
     summed(a, b, c, d)
 }
 
 // The summary of hour h. Nothing is changed: the state is lent by value and the memories are only read.
-pub fn hour_summary(
-    s: State,
-    h: u32,
-    readings: &[u32],
-    links: &[u64],
-    directory: &[u32],
-    pool: &[Mark],
-) -> Result<Hour, Refusal>
-    ensures { result ≡ summary_of s h (memory readings.now links.now directory.now pool.now) }
+pub fn hour_summary(s: State, h: u32, lent: Lent<'_>) -> Result<Hour, Refusal>
+    ensures { result ≡ summary_of s h (words lent.entry) }
 {
     let shown = quiet::scan_of(s);
     if shown.is_unfit() {
         return Err(Refusal::OutOfRange);
     }
-    if !opens::lengths_fit(s.terms, readings, links, directory, pool) {
+    if !opens::lengths_fit(s.terms, lent) {
         return Err(Refusal::OtherLengths);
     }
     if shown.is_at_work() {
@@ -128,5 +115,5 @@ pub fn hour_summary(
     if s.terms.m / 4 <= h {
         return Err(Refusal::NoSuchCell);
     }
-    quarters(s, 4 * h, readings, links, directory, pool)
+    quarters(s, 4 * h, lent)
 }

@@ -3,23 +3,20 @@
 
 ghost use Rattle.std.specs.Prelude.{◌≡◌, true};
 ghost use Rattle.lanes.specs.Ranges.{lane_fits, sizes_fit};
-ghost use Rattle.steps.specs.Memory.{memory};
+ghost use Rattle.steps.specs.Memory.{words};
 ghost use Rattle.steps.specs.Inner.{handed};
 ghost use Rattle.steps.specs.Steps.{makes, goes, ends, read_turn, asked_turn, turn_of};
 
 mod write;
 
 use lanes::{Check, Lane, Op};
-use numbers::{Cell, Mark, Process, Terms};
-use steps::{Change, Found, Next, Turn, look};
+use numbers::{Cell, Process, Terms};
+use steps::{Change, Found, Lent, Next, Turn, look};
 
 fn makes(change: Change, next: Next) -> Turn
     ensures { result ≡ makes change next }
 {
-    Turn {
-        change,
-        next,
-    }
+    Turn { change, next }
 }
 
 fn goes(o: Op) -> Turn
@@ -56,30 +53,20 @@ fn asked_turn(i: Cell, found: Option<Found>) -> Option<Turn>
 
 // One step of process q, whose lane is l; none where the word to be touched lies outside its memory. `seen` is the marks in force
 // that (b) reads: those of the process that the link names.
-pub fn turn_of(
-    z: Terms,
-    top: u32,
-    q: Process,
-    l: Lane,
-    seen: u32,
-    readings: &[u32],
-    links: &[u64],
-    directory: &[u32],
-    pool: &[Mark],
-) -> Option<Turn>
+pub fn turn_of(z: Terms, top: u32, q: Process, l: Lane, seen: u32, lent: Lent<'_>) -> Option<Turn>
     requires { (sizes_fit z top ≡ true) × (lane_fits z l ≡ true) }
-    ensures { result ≡ turn_of z top q.0 l (handed seen) (memory readings.now links.now directory.now pool.now) }
+    ensures { result ≡ turn_of z top q.0 l (handed seen) (words lent.entry) }
 {
     let o = l.op;
     match o {
         Op::Idle => None,
         Op::Read(i, c) => {
-            let found = look::check(z, seen, links, directory, pool, i, c);
+            let found = look::check(z, seen, lent, i, c);
             read_turn(z, i, found)
         }
-        Op::Reading(i) => Some(ends(steps::written_read(z, readings, i))),
+        Op::Reading(i) => Some(ends(steps::written_read(z, lent.readings, i))),
         Op::Asked(i, c) => {
-            let found = look::check(z, seen, links, directory, pool, i, c);
+            let found = look::check(z, seen, lent, i, c);
             asked_turn(i, found)
         }
         Op::Store(i, v) => Some(makes(
@@ -87,9 +74,9 @@ pub fn turn_of(
             Next::Going(Op::Write(i, Check::Link)),
         )),
         Op::Write(i, c) => {
-            let found = look::check(z, seen, links, directory, pool, i, c);
+            let found = look::check(z, seen, lent, i, c);
             write::checked_turn(q, l, i, found)
         }
-        Op::Marking(i, k) => write::marking_turn(z, top, q, l, links, directory, pool, i, k),
+        Op::Marking(i, k) => write::marking_turn(z, top, q, l, lent, i, k),
     }
 }

@@ -6,7 +6,7 @@ ghost use Rattle.steps.specs.Steps.{checked_turn, draw_turn, enter_turn, put_tur
 
 use lanes::{Lane, Marking, Op};
 use numbers::{Cell, Mark, Place, Process, Terms};
-use steps::{Change, Found, Next, Turn, look};
+use steps::{Change, Found, Lent, Next, Turn, look};
 
 fn marks(change: Change, i: Cell, k: Marking) -> Turn
     ensures { result ≡ marks change i k }
@@ -89,19 +89,11 @@ fn enter_turn(q: Process, i: Cell, stored: bool, start: u32, w: u64, n: Place) -
 }
 
 // A word goes to the own place n, if it has one in the pool, and the write goes on with the marking k.
-fn put_turn(
-    q: Process,
-    directory: &[u32],
-    pool: &[Mark],
-    i: Cell,
-    n: Place,
-    mark: Mark,
-    k: Marking,
-) -> Option<Turn>
-    ensures { result ≡ put_turn q.0 directory.now pool.now i n mark k }
+fn put_turn(q: Process, lent: Lent<'_>, i: Cell, n: Place, mark: Mark, k: Marking) -> Option<Turn>
+    ensures { result ≡ put_turn q.0 lent.entry.directory.now lent.entry.pool.now i n mark k }
 {
-    let start = look::start_of(directory, q, n);
-    look::pool_word(pool, start, n)?;
+    let start = look::start_of(lent.directory, q, n);
+    look::pool_word(lent.pool, start, n)?;
     Some(marks(Change::Mark(start, n, mark), i, k))
 }
 
@@ -123,14 +115,12 @@ pub fn marking_turn(
     top: u32,
     q: Process,
     l: Lane,
-    links: &[u64],
-    directory: &[u32],
-    pool: &[Mark],
+    lent: Lent<'_>,
     i: Cell,
     k: Marking,
 ) -> Option<Turn>
     requires { (sizes_fit z top ≡ true) × (place_fits z (place_in k) ≡ true) }
-    ensures { result ≡ marking_turn z top q.0 l links.now directory.now pool.now i k }
+    ensures { result ≡ marking_turn z top q.0 l lent.entry.links.now lent.entry.directory.now lent.entry.pool.now i k }
 {
     match k {
         Marking::Draw(stored, w, n) => Some(draw_turn(z, top, i, stored, w, n)),
@@ -138,17 +128,17 @@ pub fn marking_turn(
         Marking::Tombstone(w, n) => {
             let after = n.0 + 1;
             let then = marking_next(l, w, Place(after));
-            put_turn(q, directory, pool, i, n, numbers::TOMBSTONE, then)
+            put_turn(q, lent, i, n, numbers::TOMBSTONE, then)
         }
         Marking::Mark(w, n) => {
             let own = numbers::mark_of(i);
-            put_turn(q, directory, pool, i, n, own, Marking::Force(w, n))
+            put_turn(q, lent, i, n, own, Marking::Force(w, n))
         }
         Marking::Force(w, n) => {
             let forced = (n.0 + 1) as u32;
             Some(marks(Change::Marks(forced), i, Marking::Swap(w, n)))
         }
-        Marking::Swap(w, n) => Some(swap_turn(z, q, links, i, w, n)),
+        Marking::Swap(w, n) => Some(swap_turn(z, q, lent.links, i, w, n)),
         Marking::TakeBack(n) => {
             let back = n.0 as u32;
             Some(super::makes(Change::Marks(back), Next::Written))

@@ -16,9 +16,7 @@ pub returns-then-is_idle : goal.returns-then-is_idle
 returns-then-is_idle c = search (judged_7)
 
 pub decided-requires : goal.decided-requires
-decided-requires c =
-    told_known _ _ _ _ _ _ c.requires (ap not c.if-not-fits.false) c.args.readings.now c.args.links.now c.args.directory.now c.args.pool.now _ c.if-z-q.false
-    c.turn_of-t.ensures
+decided-requires c = told_known _ _ _ _ _ _ c.requires (ap not c.if-not-fits.false) _ _ c.if-z-q.false c.turn_of-t.ensures
 
 pub returns : goal.returns
 returns c = search (judged_on)
