@@ -57,7 +57,7 @@ pub const LINK_PROCESSES: u64 = 1 << 14;
 
 pub const LINK_PLACES: u64 = 1 << 50;
 
-// The marks in force of a lane at the most, in a grid of m cells.
+// The marks in force of a lane at the most, in a grid of m cells. Lengths are casts here and below: usize has no From of u32.
 pub fn most_marks(m: u32) -> usize
     ensures { result ≡ most_marks m }
 {
@@ -127,7 +127,7 @@ pub fn place_of(w: u64) -> Place
     Place(w % LINK_PLACES)
 }
 
-// a * b, modulo 2^32.
+// a * b, modulo 2^32: std's product, which `product_of` of the specs names.
 pub fn wrapping_mul(a: u32, b: u32) -> u32
     ensures { result ≡ product_of a b }
 {

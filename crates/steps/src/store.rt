@@ -7,7 +7,7 @@ ghost use Rattle.steps.specs.Changes.{memory_after};
 use super::{Change, LentMut, look};
 use numbers::{Mark, Place};
 
-// The word at i of a memory of either width; outside it nothing is stored.
+// The word at i of a memory of either width; outside it nothing is stored. By index: through `get_mut` the proof stays open.
 pub fn put<T: Copy>(a: &mut [T], i: usize, v: T)
     ensures { a.new ≡ set a.old i v }
 {
