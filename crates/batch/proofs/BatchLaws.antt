@@ -23,7 +23,7 @@ use Rattle.steps.specs.Inner.{handed}
 use Rattle.steps.specs.Steps.{turn_of}
 use Rattle.lanes.specs.declared.Check.TheVariants as Check
 use Rattle.lanes.specs.declared.Op.{Op}
-use Rattle.steps.specs.Memory.{Memory, memory}
+use Rattle.steps.specs.Memory.{Memory}
 use Rattle.acts.specs.declared.Acted.{Acted}
 use Rattle.acts.specs.declared.Stepped.{Stepped}
 use Rattle.acts.specs.declared.Ask.TheVariants as Ask
