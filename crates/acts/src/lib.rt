@@ -3,6 +3,9 @@
 
 pub mod begins;
 pub mod opens;
+mod seat;
+
+pub use seat::Seat;
 
 use lanes::{Lane, State};
 use numbers::Cell;

@@ -92,18 +92,6 @@ module _ (s : State) (q k : ℕ) (at : k ≡ lane_at q) (j : ℕ) (from : j ≡ 
   pub entry_is : Entry (beginning kind) → outcome (stepped_as s k b) mem' ≡ entered s mem kind q i v
   entry_is f = out_by (beginning kind) f
 
-  -- an entry that is refused leaves the state as it is
-  kept_by : (w : Bool) → Entry w → is_ok b.answer ≡ false → s ≡ (stepped_as s k b).state
-  kept_by true f h =
-      ap (λ (x : Stepped). x.state)
-      (begun_kept s q k at (lane_of s k) refl fits i (op_of (ask_of kind i v)) b (ap (λ (x : Effect). x.acted) f) h)
-  kept_by false f h =
-      ap (λ (x : Stepped). x.state)
-      (moved_kept s q k at (lane_of s k) refl (verdict_of fits s.terms s.top q (lane_of s k) mem turn) mem mem' b f h)
-
-  entry_kept : Entry (beginning kind) → (r : Bool) → r ≡ is_ok b.answer → r ≡ false → s ≡ (stepped_as s k b).state
-  entry_kept f r g h = kept_by (beginning kind) f (sym g ∙ h)
-
 -- an entry keeps a state in its ranges there
 pub entered_keeps : (s : State) (mem : Memory) (kind q : ℕ) (i : Cell) (v : ℕ) → state_fits (entered s mem kind q i v).stepped.state ≡ state_fits s
 entered_keeps s mem kind q i v = by (beginning kind)
@@ -234,18 +222,6 @@ module _ (kinds processes cells values answers₀ : List ℕ) (mem₀ : Memory) 
 
         given : b.answer ≡ answer_at kinds processes cells values (batch s mem₀ answers₀) i
         given = ap (λ (x : Outcome). x.stepped.answer) out ∙ ap (λ (x : Batch). (entering kinds processes cells values x i).stepped.answer) G.done
-
-    -- a refused entry: the state stays
-    pub going_kept : (answers' : List ℕ) (mem' : Memory) (k j code : ℕ) (b : Acted) (r : Bool) → r ≡ is_ok b.answer → r ≡ false → i < n
-        → k ≡ lane_at (get_or processes i 0) → j ≡ lane_at (named (lane_of t k).op)
-        → Does s.terms k j b mem'
-        → (code ≡ code_of b.answer) × (answer_of code ≡ b.answer) → answers' ≡ set answers i code
-        → Going kinds processes cells values answers₀ mem₀ s fits n answers' mem' t (i + 1)
-    going_kept answers' mem' k j code b r is stays low at from f =
-        going_more answers' mem' t k j code b
-        (entry_kept t (get_or processes i 0) k at j from fits G.fine mem mem'
-        (get_or kinds i 0) (record { 0 = get_or cells i 0 }) (get_or values i 0) b (own_terms k j b mem' f) r is stays)
-        low at from f
 
     pub going_end : n ≤ i
         → (batch t mem answers ≡ batch_of s mem₀ answers₀ kinds processes cells values)

@@ -4,10 +4,9 @@
 ghost use Rattle.std.specs.Prelude.{◌≡◌, ◌<◌, Ok};
 ghost use Rattle.steps.specs.Memory.{words_mut, SameLent};
 ghost use Rattle.acts.specs.Calls.{op_of, effect};
-ghost use Rattle.acts.specs.Inner.{Judged};
 ghost use Rattle.batch.specs.Batch.{bit, count_of, code_with, code_of, answer_of, beginning, ask_of, entry_of, batch, entries, batch_of, Told};
 
-use acts::{Acted, Answer, begins};
+use acts::{Acted, Answer, Seat, begins};
 use lanes::{Check, Lane, Op, State};
 use numbers::{Cell, Process, Terms};
 use refusals::Refusal;
@@ -93,28 +92,16 @@ fn op_of(kind: u8, i: Cell, v: u32) -> Op
 }
 
 // One entry: a begin of the kinds 1 to 3, else a step.
-fn entry(
-    fits: bool,
-    z: Terms,
-    top: u32,
-    q: Process,
-    l: Lane,
-    seen: u32,
-    kind: u8,
-    i: Cell,
-    v: u32,
-    lent: &mut LentMut<'_>,
-) -> Acted
-    requires { Judged fits z top q.0 l seen }
+fn entry(s: Seat, kind: u8, i: Cell, v: u32, lent: &mut LentMut<'_>) -> Acted
     ensures same { SameLent lent.old lent.new }
     ensures done { effect result (words_mut lent.new)
-        ≡ entry_of fits z top q.0 l seen kind i v (words_mut lent.old) }
+        ≡ entry_of s.fits s.terms s.top s.process.0 s.lane s.seen kind i v (words_mut lent.old) }
 {
     if beginning(kind) {
         let o = op_of(kind, i, v);
-        return begins::begun(fits, z, top, q, l, i, o);
+        return begins::begun(s.fits, s.terms, s.top, s.process, s.lane, i, o);
     }
-    judged::act(fits, z, top, q, l, seen, lent)
+    judged::act(s, lent)
 }
 
 // As many entries as the shortest list has, each on the state and the memories that the one before it left. Every call keeps a
@@ -141,38 +128,23 @@ pub fn run(
         .min(processes.len())
         .min(cells.len().min(values.len()))
         .min(answers.len());
-    let mut i: usize = 0;
-    while i < n {
-        let who = processes[i];
-        let q = Process(who);
+    for i in 0..n {
+        let q = Process(processes[i]);
         let k = begins::lane_of(q);
-        let l = t.lanes[k];
-        let o = l.op;
-        let j = begins::lane_of(judged::named(o));
-        let other = t.lanes[j];
-        let kind = kinds[i];
-        let cell = cells[i];
-        let value = values[i];
-        let b = entry(
+        let lane = t.lanes[k];
+        let j = begins::lane_of(judged::named(lane.op));
+        let seat = Seat {
             fits,
-            s.terms,
-            t.top,
-            q,
-            l,
-            other.marks,
-            kind,
-            Cell(cell),
-            value,
-            lent,
-        );
-        let answer = b.answer;
-        steps::store::put(answers, i, code_of(answer));
-        i = i + 1;
-        if answer.is_ok() {
-            let lane = b.lane;
-            t.top = b.top;
-            t.lanes[k] = lane;
-        }
+            terms: s.terms,
+            top: t.top,
+            process: q,
+            lane,
+            seen: t.lanes[j].marks,
+        };
+        let b = entry(seat, kinds[i], Cell(cells[i]), values[i], lent);
+        answers[i] = code_of(b.answer);
+        t.top = b.top;
+        t.lanes[k] = b.lane;
     }
     t
 }

@@ -5,7 +5,7 @@ ghost use Rattle.std.specs.Prelude.{◌≡◌};
 ghost use Rattle.steps.specs.Memory.{words, words_mut, SameLent};
 ghost use Rattle.acts.specs.Calls.{outcome, open_of, begin_of, step_of};
 
-use acts::{Ask, Opened, Stepped, begins, opens};
+use acts::{Ask, Opened, Seat, Stepped, begins, opens};
 use lanes::State;
 use numbers::{Process, Terms};
 use steps::{Lent, LentMut};
@@ -34,46 +34,42 @@ pub fn begin(s: State, q: Process, a: Ask) -> Stepped
     ensures { result ≡ begin_of s q.0 a }
 {
     let mut t = s;
-    let z = t.terms;
     let fits = t.fits();
     let k = begins::lane_of(q);
     let l = t.lanes[k];
-    let cell = begins::cell_of(a);
-    let o = begins::op_of(a);
-    let b = begins::begun(fits, z, t.top, q, l, cell, o);
-    let lane = b.lane;
-    let answer = b.answer;
+    let b = begins::begun(fits, t.terms, t.top, q, l, begins::cell_of(a), begins::op_of(a));
     t.top = b.top;
-    t.lanes[k] = lane;
+    t.lanes[k] = b.lane;
     Stepped {
         state: t,
-        answer: answer,
+        answer: b.answer,
     }
 }
 
 // One step of process q. The state is copied once, into `t`, and changed there; no other function takes it. The lane is taken
-// late, as in `begin`, and a refusal leaves it where it is.
+// late, as in `begin`.
 pub fn step(s: State, q: Process, lent: &mut LentMut<'_>) -> Stepped
     ensures same { SameLent lent.old lent.new }
     ensures done { outcome result (words_mut lent.new) ≡ step_of s q.0 (words_mut lent.old) }
 {
     let mut t = s;
-    let z = t.terms;
     let fits = t.fits();
     let k = begins::lane_of(q);
-    let l = t.lanes[k];
-    let o = l.op;
-    let j = begins::lane_of(judged::named(o));
-    let other = t.lanes[j];
-    let b = judged::act(fits, z, t.top, q, l, other.marks, lent);
-    let answer = b.answer;
-    if answer.is_ok() {
-        let lane = b.lane;
-        t.top = b.top;
-        t.lanes[k] = lane;
-    }
+    let lane = t.lanes[k];
+    let j = begins::lane_of(judged::named(lane.op));
+    let seat = Seat {
+        fits,
+        terms: t.terms,
+        top: t.top,
+        process: q,
+        lane,
+        seen: t.lanes[j].marks,
+    };
+    let b = judged::act(seat, lent);
+    t.top = b.top;
+    t.lanes[k] = b.lane;
     Stepped {
         state: t,
-        answer: answer,
+        answer: b.answer,
     }
 }

@@ -8,10 +8,10 @@ ghost use Rattle.steps.specs.Changes.{lane_after, top_after};
 ghost use Rattle.steps.specs.Steps.{turn_of};
 ghost use Rattle.steps.specs.Inner.{handed};
 ghost use Rattle.acts.specs.Calls.{advance, answer_of, decided, verdict_of, effect, act_of};
-ghost use Rattle.acts.specs.Inner.{named_in, named, Judged};
+ghost use Rattle.acts.specs.Inner.{named_in, named};
 ghost use Rattle.judged.specs.Inner.{change_fits, marking_goes, op_goes, next_fits, new_fits, Told, moved_to};
 
-use acts::{Acted, Answer, begins, opens};
+use acts::{Acted, Answer, Seat, begins, opens};
 use lanes::{Check, Lane, Marking, Op};
 use numbers::{Process, SEGMENTS, STEPS, Terms};
 use refusals::Refusal;
@@ -135,34 +135,25 @@ fn decided(z: Terms, top: u32, l: Lane, t: Option<Turn>) -> Result<Turn, Refusal
     Ok(turn)
 }
 
-// The refusals of a step in their order; `fits` says whether the state's numbers are in their ranges.
-fn verdict_of(
-    fits: bool,
-    z: Terms,
-    top: u32,
-    q: Process,
-    l: Lane,
-    seen: u32,
-    lent: Lent<'_>,
-) -> Result<Turn, Refusal>
-    requires { Judged fits z top q.0 l seen }
-    ensures { result ≡ verdict_of fits z top q.0 l (words lent.entry)
-        (turn_of z top q.0 l (handed seen) (words lent.entry)) }
+// The refusals of a step in their order.
+fn verdict_of(s: Seat, lent: Lent<'_>) -> Result<Turn, Refusal>
+    ensures { result ≡ verdict_of s.fits s.terms s.top s.process.0 s.lane (words lent.entry)
+        (turn_of s.terms s.top s.process.0 s.lane (handed s.seen) (words lent.entry)) }
 {
-    if !fits {
+    if !s.fits {
         return Err(Refusal::OutOfRange);
     }
-    if !opens::lengths_fit(z, lent) {
+    if !opens::lengths_fit(s.terms, lent) {
         return Err(Refusal::OtherLengths);
     }
-    if z.p <= q.0 {
+    if s.terms.p <= s.process.0 {
         return Err(Refusal::NoSuchProcess);
     }
-    if l.op.is_idle() {
+    if s.lane.op.is_idle() {
         return Err(Refusal::NothingUnderWay);
     }
-    let t = turns::turn_of(z, top, q, l, seen, lent);
-    decided(z, top, l, t)
+    let t = turns::turn_of(s.terms, s.top, s.process, s.lane, s.seen, lent);
+    decided(s.terms, s.top, s.lane, t)
 }
 
 fn moved(l: Lane, top: u32, t: Turn) -> Acted
@@ -176,27 +167,18 @@ fn moved(l: Lane, top: u32, t: Turn) -> Acted
     }
 }
 
-// The step of process q, whose lane is l: judged first, so that a refusal stores nothing.
-pub fn act(
-    fits: bool,
-    z: Terms,
-    top: u32,
-    q: Process,
-    l: Lane,
-    seen: u32,
-    lent: &mut LentMut<'_>,
-) -> Acted
-    requires { Judged fits z top q.0 l seen }
+// The step of a process: judged first, so that a refusal stores nothing.
+pub fn act(s: Seat, lent: &mut LentMut<'_>) -> Acted
     ensures same { SameLent lent.old lent.new }
     ensures done { effect result (words_mut lent.new)
-        ≡ act_of fits z top q.0 l (words_mut lent.old)
-        (turn_of z top q.0 l (handed seen) (words_mut lent.old)) }
+        ≡ act_of s.fits s.terms s.top s.process.0 s.lane (words_mut lent.old)
+        (turn_of s.terms s.top s.process.0 s.lane (handed s.seen) (words_mut lent.old)) }
 {
-    match verdict_of(fits, z, top, q, l, seen, lent.as_ref()) {
-        Err(r) => begins::refused(l, top, r),
+    match verdict_of(s, lent.as_ref()) {
+        Err(r) => begins::refused(s.lane, s.top, r),
         Ok(t) => {
             steps::store::store(lent, t.change);
-            moved(l, top, t)
+            moved(s.lane, s.top, t)
         }
     }
 }

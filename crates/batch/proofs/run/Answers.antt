@@ -2,7 +2,7 @@
 use mathlib.Core.Path.{refl, ap, ◌∙◌}
 use Rattle.acts.specs.Inner.{lane_at}
 use Rattle.acts.proofs.StateLaws.{judged_at}
-use Rattle.batch.proofs.BatchLaws.{going_start, going_more, going_end, going_kept, entries_are}
+use Rattle.batch.proofs.BatchLaws.{going_start, going_more, going_end, entries_are}
 use Rattle.batch.proofs.run.Goals as goal
 
 pub loop-i-init : goal.loop-i-init
@@ -11,21 +11,15 @@ loop-i-init c = (search, going_start c.args.kinds.now c.args.processes.now c.arg
     c.min-2.ensures c.min-3.ensures c.min-n.ensures)
     c.fits-fits.ensures)
 
-pub entry-b-requires : goal.entry-b-requires
-entry-b-requires c = let seen = c.lane_of-j.ensures.0 ∙ ap lane_at c.named.ensures in
+pub invariant_of-seat : goal.invariant_of-seat
+invariant_of-seat c = let seen = c.lane_of-j.ensures.0 ∙ ap lane_at c.named.ensures in
     rw (← c.loop-i.invariant.1.terms)
-    (judged_at c.loop-i.t _ _ c.lane_of-k.ensures.0 _ refl _ _ seen refl _ c.loop-i.invariant.1.fine)
-
-pub loop-i-preserved-then-is_ok : goal.loop-i-preserved-then-is_ok
-loop-i-preserved-then-is_ok c = let from = c.lane_of-j.ensures.0 ∙ ap lane_at c.named.ensures in
-    (search, going_more _ _ _ _ _ _ _ _ _ _ _ c.loop-i.t _ c.loop-i.invariant.1 _ _ _ _ _ _ _ refl c.loop-i-test.true c.lane_of-k.ensures.0
-    from c.entry-b.ensures.done (c.code_of.ensures.word, c.code_of.ensures.back) c.put.ensures)
+    (record { judged = judged_at c.loop-i.t _ _ c.lane_of-k.ensures.0 _ refl _ _ seen refl _ c.loop-i.invariant.1.fine })
 
 pub loop-i-preserved : goal.loop-i-preserved
 loop-i-preserved c = let from = c.lane_of-j.ensures.0 ∙ ap lane_at c.named.ensures in
-    (search, going_kept _ _ _ _ _ _ _ _ _ _ _ c.loop-i.t _ c.loop-i.invariant.1 _ _ _ _ _ _ _
-    c.is_ok.ensures.value c.if-is_ok.false c.loop-i-test.true c.lane_of-k.ensures.0 from c.entry-b.ensures.done
-    (c.code_of.ensures.word, c.code_of.ensures.back) c.put.ensures)
+    (search, going_more _ _ _ _ _ _ _ _ _ _ _ c.loop-i.t _ c.loop-i.invariant.1 _ _ _ _ _ _ _ refl c.loop-i-test.true c.lane_of-k.ensures.0
+    from c.entry-b.ensures.done (c.code_of.ensures.word, c.code_of.ensures.back) refl)
 
 pub returns-clause-done : goal.returns-clause-done
 returns-clause-done c = (going_end _ _ _ _ _ _ _ _ _ _ _ _ _ c.loop-i.invariant.1 c.loop-i-test.false).0

@@ -1,5 +1,4 @@
--- What the loop of `batch::run` keeps from turn to turn, and what falls.
-use Prim.Native.Nat.{◌-◌}
+-- What the loop of `batch::run` keeps from turn to turn.
 use Rattle.steps.specs.Memory.{words_mut, SameLent}
 use Rattle.batch.proofs.BatchLaws.{Going}
 use Rattle.batch.proofs.run.Given as goal
@@ -8,6 +7,3 @@ abbrev pub invariant-loop-i : goal.invariant-loop-i
 invariant-loop-i l =
     SameLent l.initial.lent l.lent
     × Going l.kinds l.processes l.cells l.values l.initial.answers (words_mut l.initial.lent) l.s l.fits l.n l.answers (words_mut l.lent) l.t l.i
-
-abbrev pub decreases-loop-i : goal.decreases-loop-i
-decreases-loop-i l = l.n - l.i

@@ -4,5 +4,5 @@ use Rattle.acts.proofs.StateLaws.{begun_is}
 use Rattle.grid.proofs.begin.Goals as goal
 
 pub returns : goal.returns
-returns c = begun_is c.args.s _ _ c.lane_of-k.ensures.0 _ refl _ c.args.a _ _ _ c.fits-fits.ensures c.cell_of-cell.ensures c.op_of-o.ensures
+returns c = begun_is c.args.s _ _ c.lane_of-k.ensures.0 _ refl _ c.args.a _ _ _ c.fits-fits.ensures c.cell_of.ensures c.op_of.ensures
     c.begun-b.ensures
