@@ -1,6 +1,6 @@
 -- Each case of an entry, and the loop over the entries, as laws of their definitions.
 -- Assumes nothing.
-use Rattle.std.specs.Prelude.{Option, is_ok}
+use Rattle.std.specs.Prelude.{Option}
 use Prim.Native.Nat.{ℕ, ◌+◌, ◌<◌, ◌≤◌, min}
 use mathlib.Core.Path.{◌≡◌, refl, sym, ap, ◌∙◌}
 use mathlib.Core.Bool.{Bool, true, false}
@@ -25,11 +25,10 @@ use Rattle.lanes.specs.declared.Check.TheVariants as Check
 use Rattle.lanes.specs.declared.Op.{Op}
 use Rattle.steps.specs.Memory.{Memory}
 use Rattle.acts.specs.declared.Acted.{Acted}
-use Rattle.acts.specs.declared.Stepped.{Stepped}
 use Rattle.acts.specs.declared.Ask.TheVariants as Ask
-use Rattle.acts.specs.Calls.{cell_of, op_of, Outcome, outcome, Effect, effect, stepped_as, begun_of, begin_of, act_of, verdict_of, step_of}
+use Rattle.acts.specs.Calls.{cell_of, op_of, Outcome, outcome, Effect, effect, stepped_as, begun_of, begin_of, act_of, step_of}
 use Rattle.acts.specs.Inner.{lane_at, named}
-use Rattle.acts.proofs.StateLaws.{begun_is, begun_kept, step_is, moved_kept}
+use Rattle.acts.proofs.StateLaws.{begun_is, step_is}
 use Rattle.batch.specs.Batch.{beginning, ask_of, entered, code_of, answer_of, Batch, batch, entering, onward, after, answer_at}
 use Rattle.batch.specs.Batch.{Told, entries, batch_of, entry_of}
 use Rattle.batch.specs.Kept.{begin_keeps, step_keeps}
