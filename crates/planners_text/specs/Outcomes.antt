@@ -1,6 +1,7 @@
 -- What a page comes to: one outcome, a refusal that writes nothing, and a text after which all bytes stay.
 -- Assumes nothing.
 use Rattle.std.specs.Prelude.{Ok, Err}
+use Rattle.planners_text.specs.PlannersText.{Wrote}
 use Rattle.std.specs.Prelude.{ℕ, ◌+◌, ◌≤◌, ◌≡◌, refl, Bool, true, false, List, [], ◌∷◌, ltb, length, take, drop}
 use Rattle.std.proofs.Common.{sym, ap, ◌∙◌, arith, ltb-false}
 use Rattle.std.proofs.Math.Seq.{take-append_seam, drop-append_seam}
@@ -42,10 +43,10 @@ abbrev Fair : State → Memory → List ℕ → Page → Type 0
 Fair s mem out p =
     ((n : ℕ) (o : List ℕ) → page (Ok n) o ≡ p → Put s mem out n o) × ((r : Refusal) (o : List ℕ) → page (Err r) o ≡ p → o ≡ out)
 
-apart : {A : Type 0} (n : ℕ) (r : Refusal) → Ok n ≡ Err r → A
+apart : {A : Type 0} (n : ℕ) (r : Refusal) → ◌≡◌ {A = Wrote} (Ok n) (Err r) → A
 apart n r e = absurd (let z : ◌≡◌ {A = ℕ} 0 1 = cc in omega arith)
 
-bytes_are : (n k : ℕ) → Ok n ≡ Ok k → n ≡ k
+bytes_are : (n k : ℕ) → ◌≡◌ {A = Wrote} (Ok n) (Ok k) → n ≡ k
 bytes_are n k e = cc
 
 refused_fair : (s : State) (mem : Memory) (out : List ℕ) (r : Refusal) → Fair s mem out (page (Err r) out)

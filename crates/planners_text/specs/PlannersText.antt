@@ -1,6 +1,6 @@
 -- A grid written out as RFC 4180 text into a lent buffer: document 02, W1.
 -- Assumes nothing.
-use Rattle.std.specs.Prelude.{Ok, Err}
+use Rattle.std.specs.Prelude.{Result, Ok, Err}
 use Rattle.std.specs.Prelude.{ℕ, Bool, true, false, not, List, [], ◌∷◌, ◌++◌, ltb, length}
 use Rattle.lists.specs.Lists.{gathered}
 use Rattle.logic.specs.Below.{below}
@@ -49,6 +49,10 @@ inside (Quarter.Read v b) = true
 
 abbrev pub words_fit : State → Memory → Bool
 words_fit s mem = below s.terms.m (λ (i : ℕ). inside (quarter_at s mem i))
+
+-- How many bytes were written, or why none was.
+abbrev pub Wrote : Type 0
+Wrote = Result ℕ Refusal
 
 -- What writing determines: the answer and the buffer. The state and the memories are only read.
 pub record Page : Type 0 where

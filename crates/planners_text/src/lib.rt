@@ -55,8 +55,8 @@ pub fn write_text(
     if quiet::at_work(shown) {
         return Err(Refusal::AtWork);
     }
-    let Some(n) = cells::measure(s, readings, links, directory, pool) else {
-        return Err(Refusal::OutOfRange);
-    };
-    put_text(s, readings, links, directory, pool, n, out)
+    match cells::measure(s, readings, links, directory, pool) {
+        None => Err(Refusal::OutOfRange),
+        Some(n) => put_text(s, readings, links, directory, pool, n, out),
+    }
 }

@@ -1,7 +1,7 @@
 -- The schedule program's output, from the file's bytes: "Schedule file and its program" of document 01.
 -- Assumes nothing.
-use Rattle.std.specs.Prelude.{Err, Some, None}
-use Rattle.qhs.specs.Qhs.{Reading, scheduled}
+use Rattle.std.specs.Prelude.{Ok, Err, Some, None}
+use Rattle.qhs.specs.Qhs.{Reading}
 use Rattle.std.specs.Prelude.{ℕ, zero, suc, ◌+◌, ◌*◌, ◌%◌, List, [], ◌∷◌, ◌++◌, leb, eqb, length, replicate}
 use Rattle.numbers.specs.Numbers.{most_processes, directory_words, pool_words}
 use Rattle.numbers.specs.declared.Cell.{Cell}
@@ -66,7 +66,7 @@ schedule_text bytes h n mem = sizes_line h.p h.m ++ lines_to bytes (opened_world
 
 abbrev pub output_as : List ℕ → Reading → List ℕ
 output_as bytes (Err r) = file_refused_line r
-output_as bytes (scheduled h n) = schedule_text bytes h n (filled h)
+output_as bytes (Ok file) = schedule_text bytes file.header file.records (filled file.header)
 
 abbrev pub output_of : List ℕ → List ℕ
 output_of bytes = output_as bytes (read_of bytes)
