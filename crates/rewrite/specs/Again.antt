@@ -1,7 +1,7 @@
 -- The rewriting program's output, from the file's bytes: the file as the writer writes it, or why there is none.
 -- Assumes nothing.
 use Rattle.std.specs.Prelude.{Ok, Err, Some}
-use Rattle.qhs.specs.Qhs.{Reading, scheduled}
+use Rattle.qhs.specs.Qhs.{Reading}
 use Rattle.qhs_writer.specs.Writer.{Wrote}
 use Rattle.std.specs.Prelude.{ℕ, List}
 use Rattle.qhs.specs.declared.Header.{Header}
@@ -24,7 +24,7 @@ written bytes h n out = shown (write_of h (fields_of bytes n) out)
 
 abbrev pub again_as : List ℕ → List ℕ → Reading → Placed
 again_as bytes out (Err r) = put_of out 0 (file_refused_line r)
-again_as bytes out (scheduled h n) = written bytes h n out
+again_as bytes out (Ok file) = written bytes file.header file.records out
 
 unfoldable pub again_of : List ℕ → List ℕ → Placed
 again_of bytes out = again_as bytes out (read_of bytes)

@@ -1,7 +1,7 @@
 -- The planners' program's output, from the file's bytes: the text of the grid that the file leaves, or why there is none.
 -- Assumes nothing.
 use Rattle.std.specs.Prelude.{Ok, Err, Some}
-use Rattle.qhs.specs.Qhs.{Reading, scheduled}
+use Rattle.qhs.specs.Qhs.{Reading}
 use Rattle.planners_text.specs.PlannersText.{Wrote}
 use Rattle.std.specs.Prelude.{ℕ, List}
 use Rattle.qhs.specs.declared.Header.{Header}
@@ -32,7 +32,7 @@ left bytes h n mem out = shown_of (after bytes (opened_world grid (terms_of h) m
 -- A refused file prints only `file refused R`.
 abbrev pub sheet_as : List ℕ → List ℕ → Reading → Placed
 sheet_as bytes out (Err r) = put_of out 0 (file_refused_line r)
-sheet_as bytes out (scheduled h n) = left bytes h n (filled h) out
+sheet_as bytes out (Ok file) = left bytes file.header file.records (filled file.header) out
 
 unfoldable pub sheet_of : List ℕ → List ℕ → Placed
 sheet_of bytes out = sheet_as bytes out (read_of bytes)
