@@ -14,7 +14,7 @@ use Rattle.byte_lists.specs.Lines.{room, so_far, cut, Grown, Made}
 -- a line from nothing that fits its room
 pub made : (o r : Line) (bytes : List ℕ) → Made o [] → Grown o r bytes → length bytes ≤ room → Made r bytes
 made o r bytes e g h =
-    record { sized = g.sized; is = g.is ∙ ap (λ (xs : List ℕ). cut (xs ++ bytes)) e.is ∙ take_all room bytes h }
+    record { is = g.is ∙ ap (λ (xs : List ℕ). cut (xs ++ bytes)) e.is ∙ take_all room bytes h }
 
 -- the line is what is put
 pub put_made : (l : Line) (bytes out : List ℕ) (at : ℕ) (p : Placed) → Made l bytes → p ≡ put_of out at (so_far l) → p ≡ put_of out at bytes

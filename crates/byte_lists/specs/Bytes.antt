@@ -1,10 +1,9 @@
 -- Lists of bytes: numbers at a width, words, decimal numbers, and bytes put into a buffer.
 -- Assumes nothing.
-use Rattle.std.specs.Prelude.{ℕ, zero, suc, ◌+◌, ◌*◌, ◌/◌, ◌%◌, List, [], ◌∷◌, ◌++◌, ltb, leb, get_or, length, take, drop}
+use Rattle.std.specs.Prelude.{ℕ, zero, suc, ◌+◌, ◌*◌, ◌/◌, ◌%◌, List, [], ◌∷◌, ◌++◌, ltb, leb, get_or, length, take, drop, Option, Some, None, unwrap_or}
 use Prim.Native.Char.{code}
 use Prim.Native.String.{String, [] as none, ◌∷◌ as ◌then◌}
 use Rattle.logic.specs.Pick.{pick}
-use Rattle.byte_lists.specs.declared.Put.{Put}
 
 -- Byte i; one past the end counts as 0.
 abbrev pub byte_at : List ℕ → ℕ → ℕ
@@ -46,17 +45,16 @@ splice out at bytes = take at out ++ (bytes ++ drop (at + length bytes) out)
 
 -- What putting bytes determines: the answer and the buffer. Where there is no room for all, nothing is written.
 pub record Placed : Type 0 where
-  pub answer : Put
+  pub answer : Option ℕ
   pub out : List ℕ
 
-abbrev pub placed : Put → List ℕ → Placed
+abbrev pub placed : Option ℕ → List ℕ → Placed
 placed answer out = record { answer = answer; out = out }
 
 -- Where what was put ends; 0 where nothing was.
-abbrev pub end_of : Put → ℕ
-end_of Put.NoRoom = 0
-end_of (Put.End end) = end
+abbrev pub end_of : Option ℕ → ℕ
+end_of answer = unwrap_or answer 0
 
 unfoldable pub put_of : List ℕ → ℕ → List ℕ → Placed
 put_of out at bytes =
-    pick (leb (at + length bytes) (length out)) (placed (Put.End (at + length bytes)) (splice out at bytes)) (placed Put.NoRoom out)
+    pick (leb (at + length bytes) (length out)) (placed (Some (at + length bytes)) (splice out at bytes)) (placed None out)

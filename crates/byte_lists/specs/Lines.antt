@@ -1,6 +1,6 @@
 -- What functions of this crate and above it promise of a line that is being made; no statement cites it.
 -- Assumes nothing.
-use Rattle.std.specs.Prelude.{ℕ, ◌≡◌, List, ◌++◌, length, take}
+use Rattle.std.specs.Prelude.{ℕ, ◌≡◌, List, ◌++◌, take}
 use Rattle.byte_lists.specs.declared.line.Line.{Line}
 
 -- The most bytes that a line takes, and those that it has so far.
@@ -15,10 +15,8 @@ so_far l = take l.len l.bytes
 
 -- A line to which bytes were added: what goes past its room is cut off.
 pub record Grown (l r : Line) (bytes : List ℕ) : Type 0 where
-  pub sized : length r.bytes ≡ room
   pub is : so_far r ≡ cut (so_far l ++ bytes)
 
 -- A line that is done.
 pub record Made (r : Line) (bytes : List ℕ) : Type 0 where
-  pub sized : length r.bytes ≡ room
   pub is : so_far r ≡ bytes

@@ -1,22 +1,21 @@
 -- Laws of bytes put into a buffer.
 -- Assumes nothing.
-use Rattle.std.specs.Prelude.{ℕ, ◌+◌, ◌≤◌, ◌≡◌, List, [], ◌++◌, length, take, drop}
+use Rattle.std.specs.Prelude.{ℕ, ◌+◌, ◌≤◌, ◌≡◌, List, [], ◌++◌, length, take, drop, Option, Some}
 use Rattle.std.proofs.Common.{sym, ap, ◌∙◌, append_assoc, arith, length-append, length-drop, take-append-drop, take_at, drop-drop, length-take-le, le-leb}
 use Rattle.std.proofs.Math.Seq.{drop-append-add}
-use Rattle.byte_lists.specs.declared.Put.{Put}
 use Rattle.byte_lists.specs.Bytes.{splice, Placed, placed, put_of, end_of}
 
 -- Bytes that fit are put.
 pub put_fits : (out bytes : List ℕ) (at : ℕ) → at + length bytes ≤ length out
-    → put_of out at bytes ≡ placed (Put.End (at + length bytes)) (splice out at bytes)
+    → put_of out at bytes ≡ placed (Some (at + length bytes)) (splice out at bytes)
 unfolding put_of
 put_fits out bytes at h = simp (le-leb _ _ h)
 
 -- What was put where there was room.
-pub put_end : (p : Put) (out written bytes : List ℕ) (at : ℕ) → at + length bytes ≤ length out → placed p written ≡ put_of out at bytes
+pub put_end : (p : Option ℕ) (out written bytes : List ℕ) (at : ℕ) → at + length bytes ≤ length out → placed p written ≡ put_of out at bytes
     → (end_of p ≡ at + length bytes) × (written ≡ splice out at bytes)
 put_end p out written bytes at h e =
-    let is : placed p written ≡ placed (Put.End (at + length bytes)) (splice out at bytes) = e ∙ put_fits out bytes at h in
+    let is : placed p written ≡ placed (Some (at + length bytes)) (splice out at bytes) = e ∙ put_fits out bytes at h in
     (ap (λ (x : Placed). end_of x.answer) is, ap (λ (x : Placed). x.out) is)
 
 -- Nothing put changes nothing.

@@ -1,64 +1,35 @@
 // Bytes in lists and buffers: numbers at a width, decimal numbers, bytes put into a lent buffer.
 #![tactic(auto)]
 
-ghost use Rattle.std.specs.Prelude.{◌≡◌, ◌+◌, ◌≤◌, length};
-ghost use Rattle.byte_lists.specs.Bytes.{decimal, placed, end_of, put_of};
-ghost use Rattle.byte_lists.specs.Lines.{room, so_far};
+ghost use Rattle.std.specs.Prelude.{◌≡◌};
+ghost use Rattle.byte_lists.specs.Bytes.{decimal, placed, put_of};
+ghost use Rattle.byte_lists.specs.Lines.{so_far};
 
 pub mod line;
 
-use line::Line;
+use line::{Line, ROOM};
 
 // Where the bytes end that were put; or there was no room for all of them, and nothing was written.
-#[derive(Clone, Copy)]
-pub enum Put {
-    NoRoom,
-    End(usize),
-}
-
-// Where what was put ends; 0 where nothing was.
-pub fn end_of(p: Put) -> usize
-    ensures { result ≡ end_of p }
-{
-    match p {
-        Put::NoRoom => 0,
-        Put::End(end) => end,
-    }
-}
-
-pub fn put_bytes(out: &mut [u8], at: usize, bytes: &[u8]) -> Put
+pub fn put_bytes(out: &mut [u8], at: usize, bytes: &[u8]) -> Option<usize>
     ensures { placed result out.new ≡ put_of out.old at bytes.now }
 {
-    if out.len() < at {
-        return Put::NoRoom;
+    let end = at.checked_add(bytes.len())?;
+    if out.len() < end {
+        return None;
     }
-    if out.len() - at < bytes.len() {
-        return Put::NoRoom;
-    }
-    let mut i: usize = 0;
-    while i < bytes.len() {
-        out[at + i] = bytes[i];
-        i = i + 1;
-    }
-    Put::End(at + bytes.len())
+    out[at..end].copy_from_slice(bytes);
+    Some(end)
 }
 
 // A line that is done.
-pub fn put_line(out: &mut [u8], at: usize, l: Line) -> Put
-    requires { length l.bytes ≡ room }
+pub fn put_line(out: &mut [u8], at: usize, l: Line) -> Option<usize>
     ensures { placed result out.new ≡ put_of out.old at (so_far l) }
 {
-    let bytes = l.bytes;
-    let len = l.len;
-    if len < line::ROOM {
-        put_bytes(out, at, &bytes[..len])
-    } else {
-        put_bytes(out, at, &bytes)
-    }
+    put_bytes(out, at, &l.bytes[..l.len.min(ROOM)])
 }
 
-pub fn put_decimal(out: &mut [u8], at: usize, n: u64) -> Put
+pub fn put_decimal(out: &mut [u8], at: usize, n: u64) -> Option<usize>
     ensures { placed result out.new ≡ put_of out.old at (decimal n) }
 {
-    put_line(out, at, line::number(line::empty(), n))
+    put_line(out, at, Line::new().number(n))
 }

@@ -1,7 +1,6 @@
 // A line that is being made: words and decimal numbers, one after the other.
-ghost use Rattle.std.specs.Prelude.{◌≡◌, [], ◌∷◌, length};
-ghost use Rattle.byte_lists.specs.Bytes.{decimal};
-ghost use Rattle.byte_lists.specs.Lines.{room, Grown, Made};
+ghost use Rattle.std.specs.Prelude.{◌≡◌, length};
+ghost use Rattle.byte_lists.specs.declared.line.TheConstants.{ROOM};
 
 pub const ROOM: usize = 64;
 
@@ -10,58 +9,52 @@ pub const ROOM: usize = 64;
 pub struct Line {
     pub bytes: [u8; ROOM],
     pub len: usize,
+    ghost sized: { length bytes ≡ ROOM },
 }
 
-pub fn empty() -> Line
-    ensures { Made result [] }
-{
-    let bytes = [0u8; ROOM];
-    Line {
-        bytes: bytes,
-        len: 0,
-    }
-}
+impl Line {
+    ghost use Rattle.std.specs.Prelude.{[], ◌∷◌};
+    ghost use Rattle.byte_lists.specs.Bytes.{decimal};
+    ghost use Rattle.byte_lists.specs.Lines.{Grown, Made};
 
-pub fn byte(l: Line, b: u8) -> Line
-    requires { length l.bytes ≡ room }
-    ensures { Grown l result (b ∷ []) }
-{
-    let mut t = l;
-    let at = t.len;
-    if at < ROOM {
-        t.bytes[at] = b;
-        t.len = at + 1;
+    pub fn new() -> Line
+        ensures { Made result [] }
+    {
+        Line {
+            bytes: [0; ROOM],
+            len: 0,
+        }
     }
-    t
-}
 
-pub fn word(l: Line, w: &[u8]) -> Line
-    requires { length l.bytes ≡ room }
-    ensures { Grown l result w.now }
-{
-    let mut t = l;
-    let mut i: usize = 0;
-    while i < w.len() {
-        t = byte(t, w[i]);
-        i = i + 1;
+    pub fn byte(mut self, b: u8) -> Line
+        ensures { Grown self result (b ∷ []) }
+    {
+        if ROOM <= self.len {
+            return self;
+        }
+        self.bytes[self.len] = b;
+        self.len += 1;
+        self
     }
-    t
-}
 
-// The digits are found from the last one on.
-pub fn number(l: Line, n: u64) -> Line
-    requires { length l.bytes ≡ room }
-    ensures { Grown l result (decimal n) }
-{
-    let mut digits = [0u8; 20];
-    let mut i: usize = 20;
-    let mut rest = n;
-    while 10 <= rest {
-        i = i - 1;
-        digits[i] = 48 + (rest % 10) as u8;
-        rest = rest / 10;
+    pub fn word(self, w: &[u8]) -> Line
+        ensures { Grown self result w.now }
+    {
+        let mut line = self;
+        for &b in w {
+            line = line.byte(b);
+        }
+        line
     }
-    i = i - 1;
-    digits[i] = 48 + rest as u8;
-    word(l, &digits[i..])
+
+    // The digits before the last are the number's tenth.
+    pub fn number(self, n: u64) -> Line
+        ensures { Grown self result (decimal n) }
+    {
+        if n < 10 {
+            self.byte(b'0' + n as u8)
+        } else {
+            self.number(n / 10).byte(b'0' + (n % 10) as u8)
+        }
+    }
 }

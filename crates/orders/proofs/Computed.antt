@@ -17,7 +17,6 @@ use Rattle.acts.specs.Calls.{Verdict}
 use Rattle.acts.specs.Calls as Grid
 use Rattle.summary.specs.Summary.{summary_of}
 use Rattle.planners_text.specs.PlannersText as Text
-use Rattle.qhs.specs.declared.Reading.TheVariants as Reading
 use Rattle.qhs.specs.Qhs.{read_in, read_of}
 use Rattle.qhs_writer.specs.Writer as Writer
 use Rattle.orders.specs.Numbered.{numbers_of, InOrder, step_told, rules_by, Orders}
@@ -60,6 +59,6 @@ the_orders = record {
   steps = λ s q mem. steps_by s q mem (Grid.turn_in s q mem) _ refl;
   summary = λ s h mem. as_told Err _ _ _ refl (λ r e. no cc);
   text = λ s mem out. as_told (Text.nothing_written out) _ _ _ refl (λ r e. let a = ap (λ (x : Text.Page). x.answer) e in no cc);
-  reads = λ bytes. as_told Reading.Refused _ _ _ refl (λ r e. no cc);
+  reads = λ bytes. as_told Err _ _ _ refl (λ r e. no cc);
   writes = λ h f out. as_told (Writer.nothing_written out) _ _ _ refl (λ r e. let a = ap (λ (x : Writer.Page). x.answer) e in no cc);
 }

@@ -16,7 +16,6 @@ use Rattle.acts.specs.Calls as Grid
 use Rattle.summary.specs.Summary.{summary_refusals, summary_of}
 use Rattle.planners_text.specs.PlannersText as Text
 use Rattle.qhs.specs.declared.Header.{Header}
-use Rattle.qhs.specs.declared.Reading.TheVariants as Reading
 use Rattle.qhs.specs.Qhs.{version1, file_refusals, read_of}
 use Rattle.qhs_writer.specs.Writer as Writer
 
@@ -61,7 +60,7 @@ pub record Orders : Type 0 where
       → InOrder (Text.nothing_written out) (Text.write_of s mem out) (Text.text_refusals s mem ++ Text.room_refusals s mem out) (9 ∷ 8 ∷ 10 ∷ 9 ∷ 17 ∷ [])
   -- "File: 16, 11, 12, 13, 14, 15, then open's."
   pub reads : (bytes : List ℕ)
-      → InOrder Reading.Refused (read_of bytes) (file_refusals version1 bytes) (16 ∷ 11 ∷ 12 ∷ 13 ∷ 14 ∷ 15 ∷ 1 ∷ 2 ∷ [])
+      → InOrder Err (read_of bytes) (file_refusals version1 bytes) (16 ∷ 11 ∷ 12 ∷ 13 ∷ 14 ∷ 15 ∷ 1 ∷ 2 ∷ [])
   -- The file's writer (W2): "16, 13, 15, 1, 2, then 17 if the lent buffer is too short".
   pub writes : (h : Header) (f : Writer.Fields) (out : List ℕ)
       → InOrder (Writer.nothing_written out) (Writer.write_of h f out) (Writer.write_refusals h f out) (16 ∷ 13 ∷ 15 ∷ 1 ∷ 2 ∷ 17 ∷ [])

@@ -1,5 +1,6 @@
 -- Proof: what a run shows of each cell gives each line of the text, and what it shows of the state the refusals.
 -- Assumes nothing.
+use Rattle.std.specs.Prelude.{Ok, Err}
 use Rattle.std.specs.Prelude.{ℕ, ◌≡◌, Bool, ltb, length}
 use Rattle.std.proofs.Math.Path.{refl, ap}
 use Rattle.std.proofs.Common.{sym, ◌∙◌, arith, ltb-true, lt-ltb}
@@ -10,7 +11,6 @@ use Rattle.logic.specs.BelowLaws.{below_all}
 use Rattle.lists.proofs.ListLaws.{gathered_same}
 use Rattle.acts.specs.Worlds.{grid, Call, Accepted}
 use Rattle.byte_lists.specs.Bytes.{splice}
-use Rattle.planners_text.specs.declared.Wrote.TheVariants as Wrote
 use Rattle.planners_text.specs.PlannersText.{header, line_as, lines_below, text_of, quarter_at, inside, words_fit, Page, page, write_of}
 use Rattle.planners_text.specs.Sheet.{written_as, written_below}
 use Rattle.demands.specs.Types.{Refusal, Terms, State, Memory, Ask}
@@ -23,9 +23,9 @@ use Rattle.paper.specs.OnPaper.{array_below, array_text, write_in, OnPaper, Seve
 
 -- What is left of the refusals at rest.
 abbrev put : Bool → ℕ → List ℕ → List ℕ → Page
-put short n out o = pick short (page (Wrote.Refused Refusal.NoRoom) out) (page (Wrote.Bytes n) o)
+put short n out o = pick short (page (Err Refusal.NoRoom) out) (page (Ok n) o)
 
-room_alone : (short : Bool) (n : ℕ) (out o : List ℕ) (e : Refusal) → (put short n out o).answer ≡ Wrote.Refused e → (e ≡ Refusal.NoRoom) × (short ≡ true)
+room_alone : (short : Bool) (n : ℕ) (out o : List ℕ) (e : Refusal) → (put short n out o).answer ≡ Err e → (e ≡ Refusal.NoRoom) × (short ≡ true)
 room_alone true n out o e h = (cc, refl)
 room_alone false n out o e h = absurd (let y : ◌≡◌ {A = ℕ} 0 1 = cc in omega arith)
 

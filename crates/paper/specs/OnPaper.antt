@@ -1,12 +1,12 @@
 -- On a run at rest, the cells listed for the planners are those that the array of demand 2 has a write of, with its values; and when
 -- the text is refused, on any run.
 -- Assumes nothing.
+use Rattle.std.specs.Prelude.{Ok, Err}
 use Rattle.std.specs.Prelude.{ℕ, ◌<◌, ◌≡◌, not, List, [], ◌∷◌, ◌++◌, ltb, length}
 use Rattle.logic.specs.Pick.{pick}
 use Rattle.lists.specs.Lists.{gathered}
 use Rattle.byte_lists.specs.Bytes.{splice}
 use Rattle.refusals.specs.Orders.{Rule, ◌gives◌, orders}
-use Rattle.planners_text.specs.declared.Wrote.TheVariants as Wrote
 use Rattle.planners_text.specs.PlannersText.{header, line_of, text_of, Page, page, write_of}
 use Rattle.planners_text.specs.Sheet.{Row, row, written_below}
 use Rattle.theory.specs.Order.{Entry, value_in, written_in}
@@ -27,7 +27,7 @@ abbrev pub refusals_in : Terms → Book → List ℕ → List ℕ → List Rule
 refusals_in z b text out = not (rests_in z b) gives Refusal.AtWork ∷ ltb (length out) (length text) gives Refusal.NoRoom ∷ []
 
 abbrev pub write_in : Terms → Book → List ℕ → List ℕ → Page
-write_in z b text out = orders (λ r. page (Wrote.Refused r) out) (refusals_in z b text out) (page (Wrote.Bytes (length text)) (splice out 0 text))
+write_in z b text out = orders (λ r. page (Err r) out) (refusals_in z b text out) (page (Ok (length text)) (splice out 0 text))
 
 -- One order, as demand 2 has it, of which at rest the text and its rows tell; and what writing comes to, into any buffer.
 pub record OnPaper (z : Terms) (r : Run State) : Type 0 where
@@ -38,11 +38,11 @@ pub record OnPaper (z : Terms) (r : Run State) : Type 0 where
 
 -- At rest the text is refused with 17 alone, and exactly if it is longer than the buffer.
 pub record SeventeenAlone (z : Terms) (r : Run State) (out : List ℕ) : Type 0 where
-  pub alone : (e : Refusal) → (write_of r.world.state r.world.memory out).answer ≡ Wrote.Refused e
+  pub alone : (e : Refusal) → (write_of r.world.state r.world.memory out).answer ≡ Err e
       → (e ≡ Refusal.NoRoom) × (length out < length (text_of r.world.state r.world.memory))
   pub exactly : length out < length (text_of r.world.state r.world.memory)
-      → write_of r.world.state r.world.memory out ≡ page (Wrote.Refused Refusal.NoRoom) out
+      → write_of r.world.state r.world.memory out ≡ page (Err Refusal.NoRoom) out
 
 -- With an operation under way it is refused with 10.
 abbrev pub TenUnderWay : Terms → Run State → Type 0
-TenUnderWay z r = (out : List ℕ) → UnderWay z r → write_of r.world.state r.world.memory out ≡ page (Wrote.Refused Refusal.AtWork) out
+TenUnderWay z r = (out : List ℕ) → UnderWay z r → write_of r.world.state r.world.memory out ≡ page (Err Refusal.AtWork) out

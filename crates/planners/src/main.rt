@@ -1,7 +1,6 @@
 // The planners' program: one schedule file from standard input, the text of the grid that it leaves to standard output.
 #![tactic(auto)]
 
-use byte_lists::Put;
 use play::CELL_WORDS;
 use std::io;
 
@@ -13,17 +12,13 @@ const LINE: usize = 17;
 const OUTPUT: usize = HEADING + LINE * CELL_WORDS;
 
 fn main(rt: HostRuntime) -> io::Result<()> {
-    let mut file = [0u8; qhs::INPUT];
-    let mut out = [0u8; OUTPUT];
+    let mut file = [0; qhs::INPUT];
+    let mut out = [0; OUTPUT];
     let n = streams::read_full(&mut rt.reader(), &mut file)?;
-    let put = sheet::sheet(&file[..n], &mut out);
-    match put {
-        Put::NoRoom => {}
-        Put::End(end) => {
-            if end <= OUTPUT {
-                rt.write_all(&out[..end])?;
-            }
-        }
+    if let Some(end) = sheet::sheet(&file[..n], &mut out)
+        && let Some(bytes) = out.get(..end)
+    {
+        rt.write_all(bytes)?;
     }
     Ok(())
 }

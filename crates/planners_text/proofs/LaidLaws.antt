@@ -1,5 +1,6 @@
 -- The second pass: bytes laid into the buffer one after the other.
 -- Assumes nothing.
+use Rattle.std.specs.Prelude.{Option}
 use Prim.Native.Nat.{ℕ, zero, suc, ◌+◌, ◌-◌, ◌<◌, ◌≤◌}
 use mathlib.Core.Path.{◌≡◌, refl, sym, ap, ◌∙◌}
 use mathlib.Core.Bool.{Bool, true, false}
@@ -10,14 +11,13 @@ use Rattle.lists.specs.Lists.{gathered}
 use Rattle.lanes.specs.declared.State.{State}
 use Rattle.quiet.specs.declared.Quarter.{Quarter}
 use Rattle.steps.specs.Memory.{Memory}
-use Rattle.byte_lists.specs.declared.Put.{Put}
 use Rattle.byte_lists.specs.Bytes.{word, decimal, placed, put_of, end_of}
 use Rattle.byte_lists.specs.Places.{put_end, splice_none, splice_length, splice_more}
 use Rattle.planners_text.specs.PlannersText.{crlf, line_of, line_as, quarter_at, lines_below}
 use Rattle.planners_text.specs.Inner.{Laid}
 use Rattle.planners_text.proofs.SizeLaws.{lines_more}
 
-pub laid_put : (out o bytes : List ℕ) (at a : ℕ) (p : Put) → at + length bytes ≤ length out → placed p o ≡ put_of out at bytes → a ≡ end_of p
+pub laid_put : (out o bytes : List ℕ) (at a : ℕ) (p : Option ℕ) → at + length bytes ≤ length out → placed p o ≡ put_of out at bytes → a ≡ end_of p
     → Laid out at bytes o a
 laid_put out o bytes at a p h e f =
     let both = put_end p out o bytes at h e in
@@ -37,7 +37,7 @@ laid_then out o o' xs ys at a b h l k =
     }
 
 -- a cell's line from its four parts
-pub laid_line : (out oa ob oc od : List ℕ) (at i v a b c d : ℕ) (pa pb pc pd : Put) → at + length (line_of i v) ≤ length out
+pub laid_line : (out oa ob oc od : List ℕ) (at i v a b c d : ℕ) (pa pb pc pd : Option ℕ) → at + length (line_of i v) ≤ length out
     → placed pa oa ≡ put_of out at (decimal i)
     → a ≡ end_of pa → placed pb ob ≡ put_of oa a (word ",") → b ≡ end_of pb → placed pc oc ≡ put_of ob b (decimal v) → c ≡ end_of pc
     → placed pd od ≡ put_of oc c crlf → d ≡ end_of pd → Laid out at (line_of i v) od d

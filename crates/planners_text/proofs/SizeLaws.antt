@@ -1,5 +1,6 @@
 -- The first pass: how long numbers and lines are, and the sum over the cells.
 -- Assumes nothing.
+use Rattle.std.specs.Prelude.{Some, None}
 use Prim.Native.Nat.{ℕ, ◌+◌, ◌*◌, ◌/◌, ◌<◌, ◌≤◌}
 use mathlib.Core.Path.{◌≡◌, refl, sym, ap, ◌∙◌}
 use mathlib.Core.Bool.{Bool, true, false, not}
@@ -16,29 +17,17 @@ use Rattle.quiet.specs.declared.Quarter.{Quarter}
 use Rattle.steps.specs.Memory.{Memory}
 use Rattle.byte_lists.specs.Bytes.{word, decimal}
 use Rattle.byte_lists.specs.Decimals.{decimal_low, decimal_short, decimal_long, step_length}
-use Rattle.planners_text.specs.declared.cells.Measured.{Measured}
 use Rattle.planners_text.specs.PlannersText.{crlf, header, line_of, line_as, quarter_at, lines_below, text_of, inside, words_fit}
 use Rattle.planners_text.specs.Inner.{Long, measured_of}
 
--- digits counted so far, all but those of what is left and with its last one
-pub record Counted (n rest count : ℕ) : Type 0 where
-  pub is : count + length (decimal rest) ≡ 1 + length (decimal n)
-  pub few : count ≤ 10
-  pub fits : length (decimal n) ≤ 10
+-- a number's digits: one, or those of its tenth and one more
+pub digits_low : (n : ℕ) → n < 10 → Long 10 (decimal n) 1
+digits_low n h = record { is = sym (ap length (decimal_low n h)); few = omega arith }
 
-pub counted_start : (n : ℕ) → n < 4294967296 → Counted n n 1
-counted_start n h = record { is = refl; few = omega arith; fits = decimal_short 9 n (omega arith) }
-
-pub counted_next : (n rest count : ℕ) → 10 ≤ rest → Counted n rest count → Counted n (rest / 10) (count + 1)
-counted_next n rest count h c =
-    let step = step_length rest h in
-    let some : 0 < length (decimal (rest / 10)) = decimal_long 0 (rest / 10) (omega arith) in
-    record { is = omega (arith, c.is); few = omega (arith, c.is, c.fits); fits = c.fits }
-
-pub counted_end : (n rest count : ℕ) → rest < 10 → Counted n rest count → Long 10 (decimal n) count
-counted_end n rest count h c =
-    let one : length (decimal rest) ≡ 1 = ap length (decimal_low rest h) in
-    record { is = omega (arith, c.is); few = c.few }
+pub digits_more : (n count : ℕ) → n < 4294967296 → 10 ≤ n → Long 10 (decimal (n / 10)) count → Long 10 (decimal n) (count + 1)
+digits_more n count small h c =
+    let is : count + 1 ≡ length (decimal n) = omega (arith, step_length n h, c.is) in
+    record { is = is; few = omega (arith, is, decimal_short 9 n (omega arith)) }
 
 -- the length of a cell's line
 line_length : (i v : ℕ) → length (line_of i v) ≡ length (decimal i) + length (decimal v) + 3
@@ -73,7 +62,7 @@ lines_more s mem i = rw (add-one i)
 
 module _ (s : State) (mem : Memory) (total i : ℕ) (g : Measuring s mem total i) where
   module _ (h : i < s.terms.m) (q : Quarter) (e : q ≡ quarter_at s mem i) (b : Bool) (k : b ≡ inside q) where
-    pub measuring_outside : not b ≡ true → Measured.Outside ≡ measured_of s mem
+    pub measuring_outside : not b ≡ true → None ≡ measured_of s mem
     measuring_outside x =
         let out : inside (quarter_at s mem i) ≡ false = ap inside (sym e) ∙ sym k ∙ not-true b x in
         let none : words_fit s mem ≡ false = below_fails s.terms.m i (λ (j : ℕ). inside (quarter_at s mem j)) h out in
@@ -93,7 +82,7 @@ module _ (s : State) (mem : Memory) (total i : ℕ) (g : Measuring s mem total i
           few = omega (arith, g.few, long.few);
         }
 
-  pub measuring_end : s.terms.m ≤ i → Measured.Bytes total ≡ measured_of s mem
+  pub measuring_end : s.terms.m ≤ i → Some total ≡ measured_of s mem
   unfolding text_of
   measuring_end h =
       let at : i ≡ s.terms.m = omega (arith, g.low) in

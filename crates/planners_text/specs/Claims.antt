@@ -1,11 +1,12 @@
 -- What is claimed of the planners' text. Definitions only: `ReadBack` and `Outcomes` have the proofs.
 -- Assumes nothing.
+use Rattle.std.specs.Prelude.{Ok, Err}
+use Rattle.planners_text.specs.PlannersText.{Wrote}
 use Rattle.std.specs.Prelude.{ℕ, ◌≡◌, List, length, take, drop}
 use Rattle.std.proofs.Math.Option.{some}
 use Rattle.refusals.specs.declared.Refusal.{Refusal}
 use Rattle.lanes.specs.declared.State.{State}
 use Rattle.steps.specs.Memory.{Memory}
-use Rattle.planners_text.specs.declared.Wrote.{Wrote}
 use Rattle.planners_text.specs.PlannersText.{page, write_of}
 use Rattle.planners_text.specs.Sheet.{sheet_in, written_cells}
 
@@ -18,16 +19,16 @@ OneText =
 -- Read back by RFC 4180's rules, the lines are exactly the written cells with their readings.
 abbrev pub ReadsBack : Type 0
 ReadsBack =
-    (s : State) (mem : Memory) (out : List ℕ) (n : ℕ) (o : List ℕ) → page (Wrote.Bytes n) o ≡ write_of s mem out
+    (s : State) (mem : Memory) (out : List ℕ) (n : ℕ) (o : List ℕ) → page (Ok n) o ≡ write_of s mem out
     → sheet_in (take n o) ≡ some (written_cells s mem)
 
 -- Bytes after the text stay.
 abbrev pub BytesAfterStay : Type 0
 BytesAfterStay =
-    (s : State) (mem : Memory) (out : List ℕ) (n : ℕ) (o : List ℕ) → page (Wrote.Bytes n) o ≡ write_of s mem out
+    (s : State) (mem : Memory) (out : List ℕ) (n : ℕ) (o : List ℕ) → page (Ok n) o ≡ write_of s mem out
     → (length o ≡ length out) × (drop n o ≡ drop n out)
 
 -- A refusal writes nothing.
 abbrev pub RefusedText : Type 0
 RefusedText =
-    (s : State) (mem : Memory) (out : List ℕ) (r : Refusal) (o : List ℕ) → page (Wrote.Refused r) o ≡ write_of s mem out → o ≡ out
+    (s : State) (mem : Memory) (out : List ℕ) (r : Refusal) (o : List ℕ) → page (Err r) o ≡ write_of s mem out → o ≡ out

@@ -1,11 +1,11 @@
 -- What functions inside the crate ask and promise; no statement cites it.
 -- Assumes nothing.
+use Rattle.std.specs.Prelude.{Some, None, Option}
 use Rattle.std.specs.Prelude.{ℕ, ◌+◌, ◌≤◌, ◌≡◌, List, length}
 use Rattle.logic.specs.Pick.{pick}
 use Rattle.lanes.specs.declared.State.{State}
 use Rattle.steps.specs.Memory.{Memory}
 use Rattle.byte_lists.specs.Bytes.{splice}
-use Rattle.planners_text.specs.declared.cells.Measured.{Measured}
 use Rattle.planners_text.specs.PlannersText.{text_of, words_fit}
 
 -- A number is the length of some bytes, of which there are few.
@@ -19,5 +19,5 @@ pub record Laid (out : List ℕ) (at : ℕ) (bytes after : List ℕ) (end : ℕ)
   pub shows : after ≡ splice out at bytes
 
 -- What the first pass finds.
-abbrev pub measured_of : State → Memory → Measured
-measured_of s mem = pick (words_fit s mem) (Measured.Bytes (length (text_of s mem))) Measured.Outside
+abbrev pub measured_of : State → Memory → Option ℕ
+measured_of s mem = pick (words_fit s mem) (Some (length (text_of s mem))) None

@@ -1,5 +1,7 @@
 -- What a page comes to: one outcome, a refusal that writes nothing, and a text after which all bytes stay.
 -- Assumes nothing.
+use Rattle.std.specs.Prelude.{Ok, Err}
+use Rattle.planners_text.specs.PlannersText.{Wrote}
 use Rattle.std.specs.Prelude.{ℕ, ◌+◌, ◌≤◌, ◌≡◌, refl, Bool, true, false, List, [], ◌∷◌, ltb, length, take, drop}
 use Rattle.std.proofs.Common.{sym, ap, ◌∙◌, arith, ltb-false}
 use Rattle.std.proofs.Math.Seq.{take-append_seam, drop-append_seam}
@@ -11,7 +13,6 @@ use Rattle.lanes.specs.declared.State.{State}
 use Rattle.steps.specs.Memory.{Memory}
 use Rattle.byte_lists.specs.Bytes.{splice}
 use Rattle.byte_lists.specs.Places.{splice_length}
-use Rattle.planners_text.specs.declared.Wrote.{Wrote}
 use Rattle.planners_text.specs.PlannersText.{text_of, Page, page, put_text, text_refusals, write_of}
 use Rattle.planners_text.specs.Claims.{OneText, BytesAfterStay, RefusedText}
 
@@ -22,13 +23,13 @@ one_text s mem out r r' o o' e e' = (
 )
 
 -- what holds of each refusal and of the work holds of an order
-either : (C : Page → Type 0) (out : List ℕ) (work : Page) → ((r : Refusal) → C (page (Wrote.Refused r) out)) → C work → (rules : List Rule)
-    → C (orders (λ r. page (Wrote.Refused r) out) rules work)
+either : (C : Page → Type 0) (out : List ℕ) (work : Page) → ((r : Refusal) → C (page (Err r) out)) → C work → (rules : List Rule)
+    → C (orders (λ r. page (Err r) out) rules work)
 either C out work h k [] = k
 either C out work h k (r ∷ rules) = by r.when (either C out work h k rules)
   where
-    by : (b : Bool) → C (orders (λ r. page (Wrote.Refused r) out) rules work)
-        → C (pick b (page (Wrote.Refused r.gives) out) (orders (λ r. page (Wrote.Refused r) out) rules work))
+    by : (b : Bool) → C (orders (λ r. page (Err r) out) rules work)
+        → C (pick b (page (Err r.gives) out) (orders (λ r. page (Err r) out) rules work))
     by true later = h r.gives
     by false later = later
 
@@ -40,15 +41,15 @@ pub record Put (s : State) (mem : Memory) (out : List ℕ) (n : ℕ) (o : List �
 
 abbrev Fair : State → Memory → List ℕ → Page → Type 0
 Fair s mem out p =
-    ((n : ℕ) (o : List ℕ) → page (Wrote.Bytes n) o ≡ p → Put s mem out n o) × ((r : Refusal) (o : List ℕ) → page (Wrote.Refused r) o ≡ p → o ≡ out)
+    ((n : ℕ) (o : List ℕ) → page (Ok n) o ≡ p → Put s mem out n o) × ((r : Refusal) (o : List ℕ) → page (Err r) o ≡ p → o ≡ out)
 
-apart : {A : Type 0} (n : ℕ) (r : Refusal) → Wrote.Bytes n ≡ Wrote.Refused r → A
+apart : {A : Type 0} (n : ℕ) (r : Refusal) → ◌≡◌ {A = Wrote} (Ok n) (Err r) → A
 apart n r e = absurd (let z : ◌≡◌ {A = ℕ} 0 1 = cc in omega arith)
 
-bytes_are : (n k : ℕ) → Wrote.Bytes n ≡ Wrote.Bytes k → n ≡ k
+bytes_are : (n k : ℕ) → ◌≡◌ {A = Wrote} (Ok n) (Ok k) → n ≡ k
 bytes_are n k e = cc
 
-refused_fair : (s : State) (mem : Memory) (out : List ℕ) (r : Refusal) → Fair s mem out (page (Wrote.Refused r) out)
+refused_fair : (s : State) (mem : Memory) (out : List ℕ) (r : Refusal) → Fair s mem out (page (Err r) out)
 refused_fair s mem out r =
     (λ n o e. apart n r (ap (λ (p : Page). p.answer) e), λ f o e. ap (λ (p : Page). p.out) e)
 
@@ -57,7 +58,7 @@ put_fair s mem out = by (ltb (length out) (length (text_of s mem))) refl
   where
     by : (b : Bool) → ltb (length out) (length (text_of s mem)) ≡ b
         → Fair s mem out
-        (pick b (page (Wrote.Refused Refusal.NoRoom) out) (page (Wrote.Bytes (length (text_of s mem))) (splice out 0 (text_of s mem))))
+        (pick b (page (Err Refusal.NoRoom) out) (page (Ok (length (text_of s mem))) (splice out 0 (text_of s mem))))
     by true e = refused_fair s mem out Refusal.NoRoom
     by false e = (
       λ n o h. record {
@@ -77,7 +78,7 @@ pub a_refused_text_writes_nothing : RefusedText
 a_refused_text_writes_nothing s mem out r o e = (fair s mem out).1 r o e
 
 -- the text, and what stands after it
-pub text_is : (s : State) (mem : Memory) (out : List ℕ) (n : ℕ) (o : List ℕ) → page (Wrote.Bytes n) o ≡ write_of s mem out → take n o ≡ text_of s mem
+pub text_is : (s : State) (mem : Memory) (out : List ℕ) (n : ℕ) (o : List ℕ) → page (Ok n) o ≡ write_of s mem out → take n o ≡ text_of s mem
 unfolding splice
 text_is s mem out n o e =
     let p = (fair s mem out).0 n o e in

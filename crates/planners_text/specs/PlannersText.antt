@@ -1,5 +1,6 @@
 -- A grid written out as RFC 4180 text into a lent buffer: document 02, W1.
 -- Assumes nothing.
+use Rattle.std.specs.Prelude.{Result, Ok, Err}
 use Rattle.std.specs.Prelude.{ℕ, Bool, true, false, not, List, [], ◌∷◌, ◌++◌, ltb, length}
 use Rattle.lists.specs.Lists.{gathered}
 use Rattle.logic.specs.Below.{below}
@@ -13,7 +14,6 @@ use Rattle.acts.specs.Calls.{lengths_fit}
 use Rattle.byte_lists.specs.Bytes.{word, decimal, splice}
 use Rattle.quiet.specs.declared.Quarter.{Quarter}
 use Rattle.quiet.specs.Quiet.{reading_at, unfit, at_work, scan_of}
-use Rattle.planners_text.specs.declared.Wrote.{Wrote}
 
 -- CRLF after each line.
 abbrev pub crlf : List ℕ
@@ -50,6 +50,10 @@ inside (Quarter.Read v b) = true
 abbrev pub words_fit : State → Memory → Bool
 words_fit s mem = below s.terms.m (λ (i : ℕ). inside (quarter_at s mem i))
 
+-- How many bytes were written, or why none was.
+abbrev pub Wrote : Type 0
+Wrote = Result ℕ Refusal
+
 -- What writing determines: the answer and the buffer. The state and the memories are only read.
 pub record Page : Type 0 where
   pub answer : Wrote
@@ -60,7 +64,7 @@ page answer out = record { answer = answer; out = out }
 
 -- With a refusal nothing is written.
 abbrev pub nothing_written : List ℕ → Refusal → Page
-nothing_written out r = page (Wrote.Refused r) out
+nothing_written out r = page (Err r) out
 
 -- Refusals: 9 (state), 8, 10, 9 (word),
 abbrev pub text_refusals : State → Memory → List Rule
@@ -75,7 +79,7 @@ room_refusals s mem out = ltb (length out) (length (text_of s mem)) gives Refusa
 -- Bytes after the text stay.
 abbrev pub put_text : State → Memory → List ℕ → Page
 put_text s mem out =
-    orders (nothing_written out) (room_refusals s mem out) (page (Wrote.Bytes (length (text_of s mem))) (splice out 0 (text_of s mem)))
+    orders (nothing_written out) (room_refusals s mem out) (page (Ok (length (text_of s mem))) (splice out 0 (text_of s mem)))
 
 unfoldable pub write_of : State → Memory → List ℕ → Page
 write_of s mem out = orders (nothing_written out) (text_refusals s mem) (put_text s mem out)

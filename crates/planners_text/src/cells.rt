@@ -9,24 +9,11 @@ use lanes::State;
 use numbers::{Cell, Mark};
 use quiet::Quarter;
 
-// The whole text's length, or that a word of some cell's check lies outside.
-#[derive(Clone, Copy)]
-pub enum Measured {
-    Outside,
-    Bytes(usize),
-}
-
 // How many digits a number has.
 fn digits(n: u32) -> usize
     ensures { Long 10 (decimal n) result }
 {
-    let mut count: usize = 1;
-    let mut rest = n;
-    while 10 <= rest {
-        rest = rest / 10;
-        count = count + 1;
-    }
-    count
+    if n < 10 { 1 } else { digits(n / 10) + 1 }
 }
 
 fn inside(q: Quarter) -> bool
@@ -47,37 +34,35 @@ fn length_as(i: u32, q: Quarter) -> usize
     }
 }
 
-// The first pass: every cell is looked at, and the lengths of the lines are summed.
+// The first pass: every cell is looked at, and the lengths of the lines are summed. None where a word of some cell's check lies outside.
 pub fn measure(
     s: State,
     readings: &[u32],
     links: &[u64],
     directory: &[u32],
     pool: &[Mark],
-) -> Measured
+) -> Option<usize>
     ensures { result ≡ measured_of s (memory readings.now links.now directory.now pool.now) }
 {
     let mut total: usize = 14;
-    let mut i: u32 = 0;
-    while i < s.terms.m {
+    for i in 0..s.terms.m {
         let q = quiet::reading_at(s, Cell(i), readings, links, directory, pool);
         if !inside(q) {
-            return Measured::Outside;
+            return None;
         }
-        total = total + length_as(i, q);
-        i = i + 1;
+        total += length_as(i, q);
     }
-    Measured::Bytes(total)
+    Some(total)
 }
 
 fn put_cell(out: &mut [u8], at: usize, i: u32, v: u32) -> usize
     requires { at + length (line_of i v) ≤ length out.old }
     ensures { Laid out.old at (line_of i v) out.new result }
 {
-    let a = byte_lists::end_of(byte_lists::put_decimal(out, at, i as u64));
-    let b = byte_lists::end_of(byte_lists::put_bytes(out, a, b","));
-    let c = byte_lists::end_of(byte_lists::put_decimal(out, b, v as u64));
-    byte_lists::end_of(byte_lists::put_bytes(out, c, b"\r\n"))
+    let a = byte_lists::put_decimal(out, at, i as u64).unwrap_or(0);
+    let b = byte_lists::put_bytes(out, a, b",").unwrap_or(0);
+    let c = byte_lists::put_decimal(out, b, v as u64).unwrap_or(0);
+    byte_lists::put_bytes(out, c, b"\r\n").unwrap_or(0)
 }
 
 fn put_as(out: &mut [u8], at: usize, i: u32, q: Quarter) -> usize
@@ -104,11 +89,9 @@ pub fn put_lines(
     ensures { Laid out.old start (lines_below s (memory readings.now links.now directory.now pool.now) s.terms.m) out.new result }
 {
     let mut at = start;
-    let mut i: u32 = 0;
-    while i < s.terms.m {
+    for i in 0..s.terms.m {
         let q = quiet::reading_at(s, Cell(i), readings, links, directory, pool);
         at = put_as(out, at, i, q);
-        i = i + 1;
     }
     at
 }

@@ -8,19 +8,11 @@ ghost use Rattle.planners_text.specs.PlannersText.{text_of, page, put_text, writ
 mod cells;
 
 use acts::opens;
-use cells::Measured;
 use lanes::State;
 use numbers::Mark;
 use refusals::Refusal;
 
-// How many bytes were written, or why none was.
-#[derive(Clone, Copy)]
-pub enum Wrote {
-    Bytes(usize),
-    Refused(Refusal),
-}
-
-// Writes the text, which has n bytes, where there is room for all of it.
+// Writes the text, which has n bytes, where there is room for all of it; how many bytes were written.
 fn put_text(
     s: State,
     readings: &[u32],
@@ -29,16 +21,16 @@ fn put_text(
     pool: &[Mark],
     n: usize,
     out: &mut [u8],
-) -> Wrote
+) -> Result<usize, Refusal>
     requires { n ≡ length (text_of s (memory readings.now links.now directory.now pool.now)) }
     ensures { page result out.new ≡ put_text s (memory readings.now links.now directory.now pool.now) out.old }
 {
     if out.len() < n {
-        return Wrote::Refused(Refusal::NoRoom);
+        return Err(Refusal::NoRoom);
     }
-    let start = byte_lists::end_of(byte_lists::put_bytes(out, 0, b"quarter,load\r\n"));
+    let start = byte_lists::put_bytes(out, 0, b"quarter,load\r\n").unwrap_or(0);
     let end = cells::put_lines(s, readings, links, directory, pool, start, out);
-    Wrote::Bytes(end)
+    Ok(end)
 }
 
 // Writes the written cells of a grid with their readings, a line each, below a header. The first pass looks at every cell, so
@@ -50,22 +42,21 @@ pub fn write_text(
     directory: &[u32],
     pool: &[Mark],
     out: &mut [u8],
-) -> Wrote
+) -> Result<usize, Refusal>
     ensures { page result out.new ≡ write_of s (memory readings.now links.now directory.now pool.now) out.old }
 {
     let shown = quiet::scan_of(s);
     if quiet::unfit(shown) {
-        return Wrote::Refused(Refusal::OutOfRange);
+        return Err(Refusal::OutOfRange);
     }
     if !opens::lengths_fit(s.terms, readings, links, directory, pool) {
-        return Wrote::Refused(Refusal::OtherLengths);
+        return Err(Refusal::OtherLengths);
     }
     if quiet::at_work(shown) {
-        return Wrote::Refused(Refusal::AtWork);
+        return Err(Refusal::AtWork);
     }
-    let size = cells::measure(s, readings, links, directory, pool);
-    match size {
-        Measured::Outside => Wrote::Refused(Refusal::OutOfRange),
-        Measured::Bytes(n) => put_text(s, readings, links, directory, pool, n, out),
+    match cells::measure(s, readings, links, directory, pool) {
+        None => Err(Refusal::OutOfRange),
+        Some(n) => put_text(s, readings, links, directory, pool, n, out),
     }
 }

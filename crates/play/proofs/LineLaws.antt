@@ -1,5 +1,6 @@
 -- Lines put into the buffer one after the other, and the lines of a list.
 -- Assumes nothing.
+use Rattle.std.specs.Prelude.{Option}
 use Prim.Native.Nat.{ℕ, zero, suc, ◌+◌, ◌*◌, ◌<◌, ◌≤◌}
 use mathlib.Core.Path.{◌≡◌, refl, sym, ap, ◌∙◌}
 use mathlib.Core.List.{List, [], ◌++◌, append_assoc, append-nil}
@@ -10,7 +11,6 @@ use Rattle.lanes.specs.declared.State.{State}
 use Rattle.acts.specs.declared.Answer.{Answer}
 use Rattle.batch.specs.Batch.{answer_of}
 use Rattle.acts.specs.Worlds.{World}
-use Rattle.byte_lists.specs.declared.Put.{Put}
 use Rattle.text.specs.Text.{answer_line}
 use Rattle.byte_lists.specs.Bytes.{decimal, placed, put_of, end_of}
 use Rattle.byte_lists.specs.Places.{put_end, splice_none, splice_length, splice_more}
@@ -23,7 +23,7 @@ module _ (out : List ℕ) (at : ℕ) where
   pub shown_none : Shown 0 out at [] out at
   shown_none = record { shows = sym (splice_none out at); ends = omega arith; short = omega arith }
 
-  pub shown_line : (p : Put) (line written : List ℕ) (end : ℕ) → at + line_room ≤ length out → length line ≤ line_room
+  pub shown_line : (p : Option ℕ) (line written : List ℕ) (end : ℕ) → at + line_room ≤ length out → length line ≤ line_room
       → placed p written ≡ put_of out at line → end ≡ end_of p → Shown 1 out at line written end
   shown_line p line written end room short e f =
       let put = put_end p out written line at (omega arith) e in
@@ -48,7 +48,7 @@ pub lines_start : (first : ℕ) (words out : List ℕ) (at : ℕ) → Shown 0 ou
 unfolding word_lines
 lines_start first words out at = shown_none out at
 
-pub lines_next : (first c i : ℕ) (words out₀ : List ℕ) (at₀ : ℕ) (out : List ℕ) (at : ℕ) (a : Response) (p : Put) (out' : List ℕ)
+pub lines_next : (first c i : ℕ) (words out₀ : List ℕ) (at₀ : ℕ) (out : List ℕ) (at : ℕ) (a : Response) (p : Option ℕ) (out' : List ℕ)
     (at' : ℕ) → Room first c words at₀ out₀ → i < c
     → Shown i out₀ at₀ (word_lines first words i) out at → a ≡ answer_of (get_or words i 0) → placed p out' ≡ put_of out at (answer_line (first + i) a)
     → length (answer_line (first + i) a) ≤ length (decimal (first + i)) + 23 → at' ≡ end_of p

@@ -1,5 +1,6 @@
 -- The lists played one after the other: the loop, from the first line to the whole output.
 -- Assumes nothing.
+use Rattle.std.specs.Prelude.{Some, Option}
 use Prim.Native.Nat.{ℕ, ◌+◌, ◌-◌, ◌*◌, ◌<◌, ◌≤◌}
 use mathlib.Core.Path.{◌≡◌, refl, ap, ◌∙◌}
 use mathlib.Core.List.{List, ◌++◌}
@@ -13,7 +14,6 @@ use Rattle.lanes.specs.declared.State.{State}
 use Rattle.acts.specs.declared.Opened.{Opened}
 use Rattle.acts.specs.Calls.{open_of}
 use Rattle.acts.specs.Worlds.{grid, World, world, opened_world}
-use Rattle.byte_lists.specs.declared.Put.{Put}
 use Rattle.text.specs.Text.{sizes_line}
 use Rattle.byte_lists.specs.Bytes.{placed, put_of, end_of}
 use Rattle.text.specs.Lengths.{sizes_short}
@@ -31,13 +31,13 @@ pub record Going (bytes : List ℕ) (n : ℕ) (w₀ : World State) (out₀ : Lis
   pub shown : Shown k out₀ at₀ (lines_to bytes w₀ k) out at
 
 -- what the first line leaves
-begun : (h : Header) (n : ℕ) (out out₀ : List ℕ) (at₀ : ℕ) (p : Put) → Ready h n out → placed p out₀ ≡ put_of out 0 (sizes_line h.p h.m)
+begun : (h : Header) (n : ℕ) (out out₀ : List ℕ) (at₀ : ℕ) (p : Option ℕ) → Ready h n out → placed p out₀ ≡ put_of out 0 (sizes_line h.p h.m)
     → at₀ ≡ end_of p → Shown 1 out 0 (sizes_line h.p h.m) out₀ at₀
 begun h n out out₀ at₀ p r e f =
     let line = sizes_short h.p h.m (omega (arith, r.p_high)) (omega (arith, r.m_high)) in
     shown_line out 0 p (sizes_line h.p h.m) out₀ at₀ (omega (arith, r.room)) (omega arith) e f
 
-pub going_start : (bytes : List ℕ) (h : Header) (n : ℕ) (w₀ : World State) (out out₀ : List ℕ) (at₀ : ℕ) (p : Put) → Ready h n out
+pub going_start : (bytes : List ℕ) (h : Header) (n : ℕ) (w₀ : World State) (out out₀ : List ℕ) (at₀ : ℕ) (p : Option ℕ) → Ready h n out
     → placed p out₀ ≡ put_of out 0 (sizes_line h.p h.m) → at₀ ≡ end_of p → Going bytes n w₀ out₀ at₀ w₀ out₀ at₀ 0
 unfolding after lines_to
 going_start bytes h n w₀ out out₀ at₀ p r e f =
@@ -86,10 +86,10 @@ module _ (bytes : List ℕ) (n : ℕ) (w₀ : World State) (out₀ : List ℕ) (
               (shown_more out₀ at₀ k c (lines_to bytes w₀ k) (word_lines k words c) out out' at at' (omega (arith, g.room, low)) g.shown x);
         }
 
-pub going_end : (bytes : List ℕ) (h : Header) (n : ℕ) (mem : Memory) (z : Terms) (q : Opened) (out out₀ : List ℕ) (at₀ : ℕ) (p : Put)
+pub going_end : (bytes : List ℕ) (h : Header) (n : ℕ) (mem : Memory) (z : Terms) (q : Opened) (out out₀ : List ℕ) (at₀ : ℕ) (p : Option ℕ)
     (w : World State) (out' : List ℕ) (at k : ℕ)
     → Ready h n out → z ≡ terms_of h → q ≡ open_of z mem → placed p out₀ ≡ put_of out 0 (sizes_line h.p h.m) → at₀ ≡ end_of p
-    → n ≤ k → Going bytes n (world q.state mem) out₀ at₀ w out' at k → placed (Put.End at) out' ≡ put out (schedule_text bytes h n mem)
+    → n ≤ k → Going bytes n (world q.state mem) out₀ at₀ w out' at k → placed (Some at) out' ≡ put out (schedule_text bytes h n mem)
 unfolding schedule_text
 going_end bytes h n mem z q out out₀ at₀ p w out' at k r t o e f high g =
     let b = begun h n out out₀ at₀ p r e f in

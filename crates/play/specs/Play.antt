@@ -1,5 +1,7 @@
 -- The schedule program's output, from the file's bytes: "Schedule file and its program" of document 01.
 -- Assumes nothing.
+use Rattle.std.specs.Prelude.{Ok, Err, Some, None}
+use Rattle.qhs.specs.Qhs.{Reading}
 use Rattle.std.specs.Prelude.{ℕ, zero, suc, ◌+◌, ◌*◌, ◌%◌, List, [], ◌∷◌, ◌++◌, leb, eqb, length, replicate}
 use Rattle.numbers.specs.Numbers.{most_processes, directory_words, pool_words}
 use Rattle.numbers.specs.declared.Cell.{Cell}
@@ -7,13 +9,11 @@ use Rattle.numbers.specs.declared.Terms.{Terms}
 use Rattle.logic.specs.Pick.{pick}
 use Rattle.qhs.specs.declared.Header.{Header}
 use Rattle.qhs.specs.declared.Record.{Record}
-use Rattle.qhs.specs.declared.Reading.{Reading}
 use Rattle.qhs.specs.Qhs.{most_records, most_file_cells, terms_of, record_at, read_of}
 use Rattle.lanes.specs.declared.State.{State}
 use Rattle.steps.specs.Memory.{Memory, memory}
 use Rattle.acts.specs.declared.Ask.{Ask}
 use Rattle.acts.specs.Worlds.{grid, Call, begin, step, World, answer_to, world_after, opened_world}
-use Rattle.byte_lists.specs.declared.Put.TheVariants as Put
 use Rattle.text.specs.Text.{answer_line, sizes_line, file_refused_line}
 use Rattle.byte_lists.specs.Bytes.{splice, Placed, placed}
 
@@ -65,8 +65,8 @@ unfoldable pub schedule_text : List ℕ → Header → ℕ → Memory → List �
 schedule_text bytes h n mem = sizes_line h.p h.m ++ lines_to bytes (opened_world grid (terms_of h) mem) n
 
 abbrev pub output_as : List ℕ → Reading → List ℕ
-output_as bytes (Reading.Refused r) = file_refused_line r
-output_as bytes (Reading.Schedule h n) = schedule_text bytes h n (filled h)
+output_as bytes (Err r) = file_refused_line r
+output_as bytes (Ok file) = schedule_text bytes file.header file.records (filled file.header)
 
 abbrev pub output_of : List ℕ → List ℕ
 output_of bytes = output_as bytes (read_of bytes)
@@ -89,7 +89,7 @@ abbrev pub output_room : ℕ
 output_room = line_room * (most_records + 1)
 
 abbrev pub put : List ℕ → List ℕ → Placed
-put out text = placed (Put.End (length text)) (splice out 0 text)
+put out text = placed (Some (length text)) (splice out 0 text)
 
 abbrev pub play_of : List ℕ → List ℕ → Placed
-play_of out bytes = pick (leb output_room (length out)) (put out (output_of bytes)) (placed Put.NoRoom out)
+play_of out bytes = pick (leb output_room (length out)) (put out (output_of bytes)) (placed None out)

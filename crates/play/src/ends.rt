@@ -8,29 +8,29 @@ ghost use Rattle.play.specs.Play.{after};
 use super::lists;
 use lanes::State;
 use numbers::Mark;
-use qhs::Header;
+use qhs::Schedule;
 
-// The state after n records; the lent memories then hold what belongs to it.
+// The state after the records; the lent memories then hold what belongs to it.
 pub fn state_after(
     bytes: &[u8],
-    h: Header,
-    n: usize,
+    file: Schedule,
     readings: &mut [u32],
     links: &mut [u64],
     directory: &mut [u32],
     pool: &mut [Mark],
 ) -> State
     ensures { world result (memory readings.new links.new directory.new pool.new)
-        ≡ after bytes.now (opened_world grid (terms_of h) (memory readings.old links.old directory.old pool.old)) n }
+        ≡ after bytes.now (opened_world grid (terms_of file.header) (memory readings.old links.old directory.old pool.old)) file.records }
 {
-    let o = grid::open(qhs::terms_of(h), readings, links, directory, pool);
+    let n = file.records;
+    let o = grid::open(qhs::terms_of(file.header), readings, links, directory, pool);
     let mut s = o.state;
-    let mut words = [0u64; lists::LIST];
-    let mut k: usize = 0;
+    let mut words = [0; lists::LIST];
+    let mut k = 0;
     while k < n {
         let c = lists::count(n - k);
         s = lists::played(bytes, k, c, s, &mut words, readings, links, directory, pool);
-        k = k + c;
+        k += c;
     }
     s
 }

@@ -10,9 +10,8 @@ ghost use Rattle.play.specs.Inner.{Ready};
 pub mod ends;
 mod lists;
 
-use byte_lists::Put;
 use numbers::{CELL_MARKS, LANES, Mark, PROCESS_MARKS, SEGMENTS};
-use qhs::{FILE_CELLS, FILE_RECORDS, Header, Reading};
+use qhs::{FILE_CELLS, FILE_RECORDS, Schedule};
 
 // A line's length at the most, and the room that the longest output takes: a line for the sizes, and one for each record.
 const LINE: usize = 27;
@@ -26,39 +25,43 @@ pub const DIRECTORY_WORDS: usize = (SEGMENTS as usize) * LANES;
 
 pub const POOL_WORDS: usize = CELL_MARKS * CELL_WORDS + PROCESS_MARKS * LANES;
 
-// Plays n records on a grid in the lent memories.
+// Plays a schedule on a grid in the lent memories.
 fn run(
     bytes: &[u8],
-    h: Header,
-    n: usize,
+    file: Schedule,
     readings: &mut [u32],
     links: &mut [u64],
     directory: &mut [u32],
     pool: &mut [Mark],
     out: &mut [u8],
-) -> Put
-    requires { Ready h n out.old }
-    ensures { placed result out.new ≡ put out.old (schedule_text bytes.now h n (memory readings.old links.old directory.old pool.old)) }
+) -> Option<usize>
+    requires { Ready file.header file.records out.old }
+    ensures { placed result out.new
+        ≡ put out.old (schedule_text bytes.now file.header file.records (memory readings.old links.old directory.old pool.old)) }
 {
+    let h = file.header;
+    let n = file.records;
     let o = grid::open(qhs::terms_of(h), readings, links, directory, pool);
     let mut s = o.state;
-    let mut at = byte_lists::end_of(text::put_sizes(out, 0, h.p, h.m));
-    let mut words = [0u64; lists::LIST];
-    let mut k: usize = 0;
+    let mut at = text::put_sizes(out, 0, h.p, h.m).unwrap_or(0);
+    let mut words = [0; lists::LIST];
+    let mut k = 0;
     while k < n {
         let c = lists::count(n - k);
         s = lists::played(bytes, k, c, s, &mut words, readings, links, directory, pool);
         at = lists::lines(k, c, &words, at, out);
-        k = k + c;
+        k += c;
     }
-    Put::End(at)
+    Some(at)
 }
 
-// Plays n records on a grid whose memory holds the fill.
-fn schedule(bytes: &[u8], h: Header, n: usize, out: &mut [u8]) -> Put
-    requires { Ready h n out.old }
-    ensures { placed result out.new ≡ put out.old (schedule_text bytes.now h n (filled h)) }
+// Plays a schedule on a grid whose memory holds the fill.
+fn schedule(bytes: &[u8], file: Schedule, out: &mut [u8]) -> Option<usize>
+    requires { Ready file.header file.records out.old }
+    ensures { placed result out.new
+        ≡ put out.old (schedule_text bytes.now file.header file.records (filled file.header)) }
 {
+    let h = file.header;
     let fill = h.fill;
     let low = (fill % 4294967296) as u32;
     let mut readings = [low; CELL_WORDS];
@@ -70,8 +73,7 @@ fn schedule(bytes: &[u8], h: Header, n: usize, out: &mut [u8]) -> Put
     let words = numbers::pool_words(h.p, h.m);
     run(
         bytes,
-        h,
-        n,
+        file,
         &mut readings[..cells],
         &mut links[..cells],
         &mut directory[..entries],
@@ -80,16 +82,15 @@ fn schedule(bytes: &[u8], h: Header, n: usize, out: &mut [u8]) -> Put
     )
 }
 
-// Writes what the program prints for a file of these bytes.
-pub fn play(bytes: &[u8], out: &mut [u8]) -> Put
+// Writes what the program prints for a file of these bytes; where it ends, or None where the buffer is too short for any.
+pub fn play(bytes: &[u8], out: &mut [u8]) -> Option<usize>
     ensures { placed result out.new ≡ play_of out.old bytes.now }
 {
     if out.len() < OUTPUT {
-        return Put::NoRoom;
+        return None;
     }
-    let is = qhs::read(bytes);
-    match is {
-        Reading::Refused(r) => text::put_file_refused(out, 0, r),
-        Reading::Schedule(h, n) => schedule(bytes, h, n, out),
+    match qhs::read(bytes) {
+        Err(r) => text::put_file_refused(out, 0, r),
+        Ok(file) => schedule(bytes, file, out),
     }
 }

@@ -15,18 +15,14 @@ pub const LIST: usize = 32;
 pub fn count(left: usize) -> usize
     ensures { result ≡ count_of left }
 {
-    if left < LIST { left } else { LIST }
+    left.min(LIST)
 }
 
 // In a batch the last kind alone begins an asked; in a schedule every kind from it on does.
 fn kind_of(d: Record) -> u8
     ensures { result ≡ kind_of d }
 {
-    if d.kind < LAST_KIND {
-        d.kind
-    } else {
-        LAST_KIND
-    }
+    d.kind.min(LAST_KIND)
 }
 
 // Plays the c records from record `first` on.
@@ -49,14 +45,12 @@ pub fn played(
     let mut processes = [0u32; LIST];
     let mut cells = [0u32; LIST];
     let mut values = [0u32; LIST];
-    let mut i: usize = 0;
-    while i < c {
+    for i in 0..c {
         let d = qhs::record_at(bytes, first + i);
         kinds[i] = kind_of(d);
         processes[i] = d.process as u32;
         cells[i] = d.cell;
         values[i] = d.value;
-        i = i + 1;
     }
     batch::run(
         s,
@@ -78,11 +72,9 @@ pub fn lines(first: usize, c: usize, words: &[u64], at: usize, out: &mut [u8]) -
     ensures { Shown c out.old at (word_lines first words.now c) out.new result }
 {
     let mut end = at;
-    let mut i: usize = 0;
-    while i < c {
+    for i in 0..c {
         let a = batch::answer_of(words[i]);
-        end = byte_lists::end_of(text::put_answer(out, end, first + i, a));
-        i = i + 1;
+        end = text::put_answer(out, end, first + i, a).unwrap_or(0);
     }
     end
 }

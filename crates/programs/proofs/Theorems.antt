@@ -1,5 +1,7 @@
 -- The theorems: for all bytes of a file, what each program prints is what a run of the grid answers.
 -- Assumes nothing.
+use Rattle.std.specs.Prelude.{Ok, Err}
+use Rattle.qhs.specs.Qhs.{scheduled}
 use Prim.Native.Nat.{ℕ, zero, suc, ◌≤◌}
 use Rattle.std.specs.Prelude.{◌≡◌, Bool, true, false, not, ◌≢◌, ltb, eqb, length, Err}
 use Rattle.std.proofs.Math.Path.{refl, ap}
@@ -12,14 +14,12 @@ use Rattle.refusals.specs.Numbers.{number_of}
 use Rattle.refusals.specs.Laws.{orders_then}
 use Rattle.qhs.specs.declared.Header.{Header}
 use Rattle.qhs.specs.declared.Record.{Record}
-use Rattle.qhs.specs.declared.Reading.{Reading}
 use Rattle.qhs.specs.Qhs.{terms_of, record_at, read_of}
 use Rattle.qhs.specs.Laws.{schedule}
 use Rattle.acts.specs.Calls as Grid
 use Rattle.acts.specs.Worlds.{grid, begin, step, World, answer_to, Accepted, opened_world}
 use Rattle.byte_lists.specs.Bytes.{splice}
 use Rattle.text.specs.Text.{answer_line, sizes_line}
-use Rattle.planners_text.specs.declared.Wrote.TheVariants as Wrote
 use Rattle.planners_text.specs.PlannersText.{text_of, page}
 use Rattle.play.specs.Play.{filled, ask_of, call_of, calls, after, lines_to, schedule_text, output_as}
 use Rattle.play.specs.Fold.{after_calls_lem, answer_call}
@@ -107,7 +107,7 @@ leaves_a_run bytes h mem n ok = (left_by bytes h mem n, met bytes h mem ok n)
 
 -- ---- the programs
 
-module _ (bytes : List ℕ) (h : Header) (n : ℕ) (e : read_of bytes ≡ Reading.Schedule h n) where
+module _ (bytes : List ℕ) (h : Header) (n : ℕ) (e : read_of bytes ≡ scheduled h n) where
   -- What the reader accepts, open accepts.
   pub accepted : Accepted grid (terms_of h) (filled h)
   accepted = Opens.accepted h (schedule bytes (read_of bytes) h n refl e).counts
@@ -139,7 +139,7 @@ module _ (bytes : List ℕ) (h : Header) (n : ℕ) (e : read_of bytes ≡ Readin
       ap (sheet_as bytes out) e
       ∙ ap (λ (w : World State). shown_of w out) (left_by bytes h (filled h) n)
       ∙ ap shown (paper.writes out)
-      ∙ orders_then shown (λ r. page (Wrote.Refused r) out) (refusals_in (terms_of h) end.book text out) (page (Wrote.Bytes (length text)) (splice out 0 text))
+      ∙ orders_then shown (λ r. page (Err r) out) (refusals_in (terms_of h) end.book text out) (page (Ok (length text)) (splice out 0 text))
 
   -- with an operation under way no text is looked at
   by_array : (out : List ℕ) → sheet_in (terms_of h) end.book text out ≡ sheet_in (terms_of h) end.book array out

@@ -1,14 +1,14 @@
 -- What the programs print is what runs of the grid answer: the statements.
 -- Assumes nothing.
+use Rattle.std.specs.Prelude.{Some}
+use Rattle.qhs.specs.Qhs.{scheduled}
 use Rattle.std.specs.Prelude.{ℕ, ◌≤◌, ◌≡◌, ◌≢◌, List, ◌++◌, length, Err}
 use Rattle.lists.specs.Lists.{gathered}
 use Rattle.refusals.specs.Numbers.{number_of}
 use Rattle.refusals.specs.Orders.{orders}
 use Rattle.qhs.specs.declared.Header.{Header}
-use Rattle.qhs.specs.declared.Reading.TheVariants as Reading
 use Rattle.qhs.specs.Qhs.{terms_of, record_at, read_of}
 use Rattle.acts.specs.Worlds.{grid, Call, answer_to, Accepted, opened_world}
-use Rattle.byte_lists.specs.declared.Put.TheVariants as Put
 use Rattle.byte_lists.specs.Bytes.{splice, Placed, placed, put_of}
 use Rattle.text.specs.Text.{answer_line, sizes_line, refused_line}
 use Rattle.play.specs.Play.{filled, call_of, calls, after, output_of}
@@ -50,7 +50,7 @@ pub record Printed (bytes : List ℕ) (h : Header) (n : ℕ) : Type 0 where
 -- if the text is longer than the buffer; else the text. 9 and 8 never occur.
 abbrev pub sheet_in : Terms → Book → List ℕ → List ℕ → Placed
 sheet_in z b text out =
-    orders (λ r. put_of out 0 (refused_line r)) (refusals_in z b text out) (placed (Put.End (length text)) (splice out 0 text))
+    orders (λ r. put_of out 0 (refused_line r)) (refusals_in z b text out) (placed (Some (length text)) (splice out 0 text))
 
 -- The text is that of the array of demand 2, in one order of the run.
 pub record Sheet (bytes : List ℕ) (h : Header) (n : ℕ) : Type 0 where
@@ -60,7 +60,7 @@ pub record Sheet (bytes : List ℕ) (h : Header) (n : ℕ) : Type 0 where
 
 -- What each program prints for the bytes of any file that the reader accepts.
 abbrev pub PrintsARun : Type 0
-PrintsARun = (bytes : List ℕ) (h : Header) (n : ℕ) → read_of bytes ≡ Reading.Schedule h n → Printed bytes h n
+PrintsARun = (bytes : List ℕ) (h : Header) (n : ℕ) → read_of bytes ≡ scheduled h n → Printed bytes h n
 
 abbrev pub SheetOfARun : Type 0
-SheetOfARun = (bytes : List ℕ) (h : Header) (n : ℕ) → read_of bytes ≡ Reading.Schedule h n → Sheet bytes h n
+SheetOfARun = (bytes : List ℕ) (h : Header) (n : ℕ) → read_of bytes ≡ scheduled h n → Sheet bytes h n

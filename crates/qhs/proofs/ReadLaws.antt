@@ -14,10 +14,9 @@ use Rattle.logic.specs.BelowLaws.{below_fails, below_next}
 use Rattle.refusals.specs.declared.Refusal.{Refusal}
 use Rattle.qhs.specs.declared.Layout.{Layout}
 use Rattle.qhs.specs.declared.Header.{Header}
-use Rattle.qhs.specs.declared.Reading.{Reading}
-use Rattle.qhs.specs.declared.Counts.{Counts}
+use Rattle.std.specs.Prelude.{Ok, Err}
 use Rattle.qhs.specs.Qhs.{version1, most_bytes, most_file_cells, most_kind, marked, version_of, header_of, body_bytes, records_in}
-use Rattle.qhs.specs.Qhs.{record_in, kind_fits, counts_as, read_in, read_of}
+use Rattle.qhs.specs.Qhs.{record_in, kind_fits, Counts, counts_as, Reading, scheduled, read_in, read_of}
 use Rattle.qhs.specs.Inner.{opened_as, records_as}
 use Rattle.qhs.specs.Laws.{counted_as, counted}
 
@@ -43,17 +42,17 @@ known_all l s k n h low high = let e : k ≡ n = omega arith in sym (rw e at h)
 -- ---- the header's refusals
 
 module _ (l : Layout) (s : List ℕ) where
-  pub too_long : most_bytes < length s → Reading.Refused Refusal.FileTooLong ≡ read_in l s
+  pub too_long : most_bytes < length s → Err Refusal.FileTooLong ≡ read_in l s
   unfolding read_in
   too_long h = simp (lt-ltb _ _ h)
 
   module _ (fits : length s ≤ most_bytes) where
-    pub too_short : length s < l.header → Reading.Refused Refusal.NotASchedule ≡ read_in l s
+    pub too_short : length s < l.header → Err Refusal.NotASchedule ≡ read_in l s
     unfolding read_in
     too_short h = simp (le-ltb _ _ fits, lt-leb _ _ h)
 
     module _ (long : l.header ≤ length s) (b : Bool) (eb : b ≡ marked s) where
-      pub unmarked : not b ≡ true → Reading.Refused Refusal.NotASchedule ≡ read_in l s
+      pub unmarked : not b ≡ true → Err Refusal.NotASchedule ≡ read_in l s
       unfolding read_in
       unmarked h = simp (le-ltb _ _ fits, le-leb _ _ long, sym eb ∙ not-true b h)
 
@@ -61,7 +60,7 @@ module _ (l : Layout) (s : List ℕ) where
         is_marked : marked s ≡ true
         is_marked = sym eb ∙ not-false b mark
 
-        pub other_version : (v ≡ l.version → ⊥) → Reading.Refused Refusal.Version ≡ read_in l s
+        pub other_version : (v ≡ l.version → ⊥) → Err Refusal.Version ≡ read_in l s
         unfolding read_in
         other_version h = simp (le-ltb _ _ fits, le-leb _ _ long, is_marked, ne_eqb (version_of s) l.version (λ e. h (ev ∙ e)))
 
@@ -72,7 +71,7 @@ module _ (l : Layout) (s : List ℕ) where
           m_is : (header_of l s).m ≡ d.m
           m_is = ap (λ (x : Header). x.m) (sym ed)
 
-          pub many_cells : most_file_cells < d.m → Reading.Refused Refusal.TooManyCells ≡ read_in l s
+          pub many_cells : most_file_cells < d.m → Err Refusal.TooManyCells ≡ read_in l s
           unfolding read_in
           many_cells h = simp (le-ltb _ _ fits, le-leb _ _ long, is_marked, is_one, m_is, lt-ltb _ _ h)
 
@@ -89,11 +88,11 @@ read_is s r e = e
 -- ---- the records' refusals
 
 module _ (l : Layout) (s : List ℕ) (d : Header) where
-  pub ragged : (body_bytes l s % l.stride ≡ 0 → ⊥) → Reading.Refused Refusal.RaggedRecords ≡ records_as l s d
+  pub ragged : (body_bytes l s % l.stride ≡ 0 → ⊥) → Err Refusal.RaggedRecords ≡ records_as l s d
   ragged h = simp (ne_eqb _ _ h)
 
   module _ (whole : body_bytes l s % l.stride ≡ 0) (t : Bool) (et : t ≡ below (records_in l s) (kind_fits l s)) where
-    pub unknown_kind : not t ≡ true → Reading.Refused Refusal.RecordKind ≡ records_as l s d
+    pub unknown_kind : not t ≡ true → Err Refusal.RecordKind ≡ records_as l s d
     unknown_kind h = simp (eq-eqb _ _ whole, sym et ∙ not-true t h)
 
     pub left_to_open : (r : Reading) → not t ≡ false → r ≡ opened_as d (records_in l s) → r ≡ records_as l s d
@@ -103,24 +102,24 @@ module _ (l : Layout) (s : List ℕ) (d : Header) where
 
 module _ (d : Header) (n : ℕ) (c : Counts) (is : c ≡ counts_as d.p d.m) where
   abbrev comes : Counts → Reading
-  comes x = counted_as Reading.Refused (Reading.Schedule d n) x
+  comes x = counted_as Err (scheduled d n) x
 
   left : comes c ≡ opened_as d n
-  left = ap comes is ∙ counted Reading.Refused d.p d.m (Reading.Schedule d n)
+  left = ap comes is ∙ counted Err d.p d.m (scheduled d n)
 
-  pub opened_not : (r : Refusal) → c ≡ Counts.Refused r → Reading.Refused r ≡ opened_as d n
+  pub opened_not : (r : Refusal) → c ≡ Err r → Err r ≡ opened_as d n
   opened_not r e = ap comes (sym e) ∙ left
 
-  pub opened_fit : c ≡ Counts.Fit → Reading.Schedule d n ≡ opened_as d n
+  pub opened_fit : c ≡ Ok tt → scheduled d n ≡ opened_as d n
   opened_fit e = ap comes (sym e) ∙ left
 
 module _ (p m : ℕ) (x : Bool) (e : x ≡ processes_fit p) where
-  pub no_processes : not x ≡ true → Counts.Refused Refusal.ProcessCount ≡ counts_as p m
+  pub no_processes : not x ≡ true → Err Refusal.ProcessCount ≡ counts_as p m
   no_processes h = rw (sym e ∙ not-true x h)
 
   module _ (h : not x ≡ false) (y : Bool) (f : y ≡ cells_fit m) where
-    pub no_cells : not y ≡ true → Counts.Refused Refusal.CellCount ≡ counts_as p m
+    pub no_cells : not y ≡ true → Err Refusal.CellCount ≡ counts_as p m
     no_cells k = rw (sym e ∙ not-false x h, sym f ∙ not-true y k)
 
-    pub both_fit : not y ≡ false → Counts.Fit ≡ counts_as p m
+    pub both_fit : not y ≡ false → Ok tt ≡ counts_as p m
     both_fit k = rw (sym e ∙ not-false x h, sym f ∙ not-false y k)

@@ -1,13 +1,12 @@
 -- What the reader's own functions ask and are held to.
 -- Assumes nothing.
-use Rattle.std.specs.Prelude.{ℕ, ◌+◌, ◌%◌, ◌≤◌, not, List, [], ◌∷◌, leb, eqb, length}
+use Rattle.std.specs.Prelude.{ℕ, ◌+◌, ◌%◌, ◌≤◌, not, List, [], ◌∷◌, leb, eqb, length, Err}
 use Rattle.refusals.specs.Orders.{◌gives◌, orders}
 use Rattle.refusals.specs.declared.Refusal.TheVariants as Refusal
 use Rattle.logic.specs.Pick.{pick}
 use Rattle.qhs.specs.declared.Layout.{Layout}
 use Rattle.qhs.specs.declared.Header.{Header}
-use Rattle.qhs.specs.declared.Reading.{Reading}
-use Rattle.qhs.specs.Qhs.{version1, record_start, body_bytes, records_in, kinds_fit, open_refusals}
+use Rattle.qhs.specs.Qhs.{version1, record_start, body_bytes, records_in, kinds_fit, open_refusals, Reading, scheduled}
 
 -- How far a header or a record reaches at the most.
 abbrev pub reach : ℕ
@@ -23,9 +22,9 @@ pub record Sound (l : Layout) : Type 0 where
   pub fill_near : l.fill ≤ reach
   pub value_near : l.value ≤ reach
 
--- A place in a file, or within reach of its end.
-abbrev pub Near : List ℕ → ℕ → Type 0
-Near bytes at = at ≤ length bytes + reach
+-- So many bytes from a place in a file on, or from one within reach of its end.
+abbrev pub Near : List ℕ → ℕ → ℕ → Type 0
+Near bytes at width = at + width ≤ length bytes + (reach + 8)
 
 -- Where record k starts in a file of so many bytes; the file's end where it would start past it.
 abbrev pub start_in : Layout → ℕ → ℕ → ℕ
@@ -33,12 +32,12 @@ start_in l len k = pick (leb (record_start l k) len) (record_start l k) len
 
 -- What a file of n records comes to once only open's refusals are left.
 abbrev pub opened_as : Header → ℕ → Reading
-opened_as d n = orders Reading.Refused (open_refusals d.p d.m) (Reading.Schedule d n)
+opened_as d n = orders Err (open_refusals d.p d.m) (scheduled d n)
 
 -- What a file comes to once its header is in order.
 abbrev pub records_as : Layout → List ℕ → Header → Reading
 records_as l bytes d =
     orders
-    Reading.Refused
+    Err
     (not (eqb (body_bytes l bytes % l.stride) 0) gives Refusal.RaggedRecords ∷ not (kinds_fit l bytes) gives Refusal.RecordKind ∷ [])
     (opened_as d (records_in l bytes))

@@ -1,7 +1,7 @@
 -- What callers may use of numbers in a file and of a file that was read, in place of the definitions' text.
 -- Assumes nothing.
-use Rattle.std.specs.Prelude.{◌≡◌, true, false, not, ◌&&◌, List, ℕ, ◌+◌, ◌*◌, ◌%◌, ◌^◌, ◌<◌, ◌≤◌, length, leb}
-use Rattle.std.proofs.Common.{sym, ◌∙◌, div-add-mod', mul_comm, mul-le-mul_left, arith, ltb-false, leb-true, eqb-true}
+use Rattle.std.specs.Prelude.{◌≡◌, true, false, not, ◌&&◌, List, ℕ, ◌+◌, ◌*◌, ◌%◌, ◌^◌, ◌<◌, ◌≤◌, length, leb, Ok, Err}
+use Rattle.std.proofs.Common.{sym, ap, ◌∙◌, div-add-mod', mul_comm, mul-le-mul_left, arith, ltb-false, leb-true, eqb-true}
 use Rattle.std.proofs.lemmas.Bool.{not-false}
 use Rattle.byte_lists.proofs.Digits.{Bytes, number_below}
 use Rattle.numbers.specs.Numbers.{most_processes, most_cells}
@@ -13,21 +13,20 @@ use Rattle.refusals.specs.Orders.{orders}
 use Rattle.refusals.specs.declared.Refusal.{Refusal}
 use Rattle.qhs.specs.declared.Layout.{Layout}
 use Rattle.qhs.specs.declared.Header.{Header}
-use Rattle.qhs.specs.declared.Reading.{Reading}
-use Rattle.qhs.specs.declared.Counts.{Counts}
+use Rattle.qhs.specs.declared.Schedule.{Schedule as Read}
 use Rattle.qhs.specs.Qhs.{version1, most_bytes, most_records, most_file_cells, most_kind, marked, version_of, header_of, record_in}
-use Rattle.qhs.specs.Qhs.{body_bytes, records_in, kind_fits, kinds_fit, open_refusals, counts_as, file_refusals, read_in, read_of}
+use Rattle.qhs.specs.Qhs.{body_bytes, records_in, kind_fits, kinds_fit, open_refusals, counts_as, Counts, file_refusals, Reading, scheduled, read_in, read_of}
 use Rattle.qhs.specs.Inner.{Sound}
 
 -- ---- p and m
 
 -- What open's first two refusals come to, told from the outcome of their one test.
 abbrev pub counted_as : {A : Type 0} → (Refusal → A) → A → Counts → A
-counted_as refuse work (Counts.Refused r) = refuse r
-counted_as refuse work Counts.Fit = work
+counted_as refuse work (Err r) = refuse r
+counted_as refuse work (Ok fit) = work
 
 pub counted : {A : Type 0} (refuse : Refusal → A) (p m : ℕ) (work : A) → counted_as refuse work (counts_as p m) ≡ orders refuse (open_refusals p m) work
-counted refuse p m work = orders_then (counted_as refuse work) Counts.Refused (open_refusals p m) Counts.Fit
+counted refuse p m work = orders_then (counted_as refuse work) Err (open_refusals p m) (Ok tt)
 
 -- p and m that open does not refuse.
 pub record Counted (p m : ℕ) : Type 0 where
@@ -60,7 +59,7 @@ version1_sound = record {
   value_near = omega arith;
 }
 
-refused_not : (r : Refusal) (d : Header) (n : ℕ) → Reading.Refused r ≡ Reading.Schedule d n → ⊥
+refused_not : (r : Refusal) (d : Header) (n : ℕ) → Err r ≡ scheduled d n → ⊥
 refused_not r d n h = let z : ◌≡◌ {A = ℕ} 0 1 = cc in omega arith
 
 -- What a schedule's header and its number of records satisfy.
@@ -88,15 +87,19 @@ few_records l n len sound e fits =
     let turned = mul_comm n l.stride in
     omega (arith, sound.header_low)
 
-schedule_in : (l : Layout) (s : List ℕ) (d : Header) (n : ℕ) → Sound l → read_in l s ≡ Reading.Schedule d n → Schedule l s d n
+ok_is : {x y : Read} → ◌≡◌ {A = Reading} (Ok x) (Ok y) → x ≡ y
+ok_is e = cc
+
+schedule_in : (l : Layout) (s : List ℕ) (d : Header) (n : ℕ) → Sound l → read_in l s ≡ scheduled d n → Schedule l s d n
 unfolding read_in
 schedule_in l s d n sound e =
-    let h = past Reading.Refused (file_refusals l s) (Reading.Schedule (header_of l s) (records_in l s)) (Reading.Schedule d n) (λ r. refused_not r d n) e in
+    let h = past Err (file_refusals l s) (scheduled (header_of l s) (records_in l s)) (scheduled d n) (λ r. refused_not r d n) e in
     let fits = h.0.0 in
     let after_mark = h.0.1.1 in
     let body = after_mark.1.1 in
-    let d_is : d ≡ header_of l s = cc h.1 in
-    let n_is : n ≡ records_in l s = cc h.1 in
+    let same : (record { header = header_of l s; records = records_in l s }) ≡ (record { header = d; records = n }) = ok_is h.1 in
+    let d_is : d ≡ header_of l s = sym (ap (λ (x : Read). x.header) same) in
+    let n_is : n ≡ records_in l s = sym (ap (λ (x : Read). x.records) same) in
     let short = ltb-false most_bytes (length s) fits in
     let begins = not-false (leb l.header (length s) && marked s) h.0.1.0 in
     let long = leb-true l.header (length s) (and_left (leb l.header (length s)) (marked s) begins) in
@@ -115,7 +118,7 @@ schedule_in l s d n sound e =
       kinds = λ k low. leb-true _ _ (below_at (records_in l s) k (kind_fits l s) (rw (sym n_is) low) known);
     }
 
-pub schedule : (s : List ℕ) (r : Reading) (d : Header) (n : ℕ) → r ≡ read_of s → r ≡ Reading.Schedule d n → Schedule version1 s d n
+pub schedule : (s : List ℕ) (r : Reading) (d : Header) (n : ℕ) → r ≡ read_of s → r ≡ scheduled d n → Schedule version1 s d n
 unfolding read_of
 schedule s r d n e f = schedule_in version1 s d n version1_sound (sym e ∙ f)
 

@@ -1,6 +1,6 @@
 -- The schedule file: what its bytes say, and its refusals in document 01's order.
 -- Assumes nothing.
-use Rattle.std.specs.Prelude.{ℕ, ◌+◌, ◌-◌, ◌*◌, ◌/◌, ◌%◌, Bool, not, ◌&&◌, List, [], ◌∷◌, leb, ltb, eqb, length}
+use Rattle.std.specs.Prelude.{ℕ, ◌+◌, ◌-◌, ◌*◌, ◌/◌, ◌%◌, Bool, not, ◌&&◌, List, [], ◌∷◌, leb, ltb, eqb, length, Result, Ok, Err}
 use Rattle.byte_lists.specs.Bytes.{byte_at, number_at}
 use Rattle.numbers.specs.Cells.{processes_fit, cells_fit}
 use Rattle.numbers.specs.declared.Terms.{Terms}
@@ -10,8 +10,7 @@ use Rattle.refusals.specs.declared.Refusal.{Refusal}
 use Rattle.qhs.specs.declared.Layout.{Layout}
 use Rattle.qhs.specs.declared.Header.{Header}
 use Rattle.qhs.specs.declared.Record.{Record}
-use Rattle.qhs.specs.declared.Reading.{Reading}
-use Rattle.qhs.specs.declared.Counts.{Counts}
+use Rattle.qhs.specs.declared.Schedule.{Schedule}
 
 -- Version 1: a header of 24 bytes with a cell count of 2, first from 8, step from 12 and the fill from 16 on; then records of 8 bytes
 -- with a cell of 2 bytes and the value from 4 on.
@@ -95,8 +94,11 @@ open_refusals p m =
     ∷ not (cells_fit m) gives Refusal.CellCount
     ∷ []
 
+abbrev pub Counts : Type 0
+Counts = Result (Unit {0}) Refusal
+
 abbrev pub counts_as : ℕ → ℕ → Counts
-counts_as p m = orders Counts.Refused (open_refusals p m) Counts.Fit
+counts_as p m = orders Err (open_refusals p m) (Ok tt)
 
 -- File: 16, 11, 12, 13, 14, 15, then open's. 15 looks at all records before 1, 2.
 abbrev pub file_refusals : Layout → List ℕ → List Rule
@@ -109,9 +111,16 @@ file_refusals l bytes =
     ∷ not (kinds_fit l bytes) gives Refusal.RecordKind
     ∷ open_refusals (header_of l bytes).p (header_of l bytes).m
 
+-- What a file is: refused, or a schedule of so many records.
+abbrev pub Reading : Type 0
+Reading = Result Schedule Refusal
+
+abbrev pub scheduled : Header → ℕ → Reading
+scheduled h n = Ok (record { header = h; records = n })
+
 -- What a file of a layout comes to; a file of any bytes is held to version 1.
 unfoldable pub read_in : Layout → List ℕ → Reading
-read_in l bytes = orders Reading.Refused (file_refusals l bytes) (Reading.Schedule (header_of l bytes) (records_in l bytes))
+read_in l bytes = orders Err (file_refusals l bytes) (scheduled (header_of l bytes) (records_in l bytes))
 
 unfoldable pub read_of : List ℕ → Reading
 read_of bytes = read_in version1 bytes

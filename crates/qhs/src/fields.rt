@@ -5,36 +5,28 @@ ghost use Rattle.qhs.specs.Inner.{Sound, Near, start_in};
 
 use super::Layout;
 
-fn wide(b: u8) -> u64
-    ensures { (result ≡ b) × (result < 256) }
-{
-    b as u64
-}
-
 // Byte i; one past the end counts as 0.
 pub fn byte_at(bytes: &[u8], i: usize) -> u8
     ensures { result ≡ byte_at bytes.now i }
 {
-    if i < bytes.len() { bytes[i] } else { 0 }
+    bytes.get(i).copied().unwrap_or(0)
 }
 
 // The little-endian number that `width` bytes hold from byte `at` on.
 pub fn number_at(bytes: &[u8], at: usize, width: usize) -> u64
-    requires { (width ≤ 8) × Near bytes.now at }
+    requires { (width ≤ 8) × Near bytes.now at width }
     ensures { (result ≡ number_at bytes.now at width) × (result < 256 ^ width) }
 {
-    let mut n: u64 = 0;
-    let mut i = width;
-    while 0 < i {
-        i = i - 1;
-        n = n * 256 + wide(byte_at(bytes, at + i));
+    if width == 0 {
+        return 0;
     }
-    n
+    let rest = number_at(bytes, at + 1, width - 1);
+    u64::from(byte_at(bytes, at)) + 256 * rest
 }
 
 // Such a number of 32 bits at the most.
 pub fn word_at(bytes: &[u8], at: usize, width: usize) -> u32
-    requires { (width ≤ 4) × Near bytes.now at }
+    requires { (width ≤ 4) × Near bytes.now at width }
     ensures { result ≡ number_at bytes.now at width }
 {
     number_at(bytes, at, width) as u32

@@ -58,18 +58,11 @@ pub struct Record {
     pub value: u32,
 }
 
-// What a file is: refused, or a schedule of so many records.
+// What a file says that is not refused: its header, and how many records it has.
 #[derive(Clone, Copy)]
-pub enum Reading {
-    Refused(Refusal),
-    Schedule(Header, usize),
-}
-
-// What open says to p and m alone.
-#[derive(Clone, Copy)]
-pub enum Counts {
-    Refused(Refusal),
-    Fit,
+pub struct Schedule {
+    pub header: Header,
+    pub records: usize,
 }
 
 // A file's length at the most, and one byte more: the room in which a longer one is seen to be.
@@ -91,13 +84,7 @@ fn marked(bytes: &[u8]) -> bool
     requires { 3 ≤ length bytes.now }
     ensures { result ≡ marked bytes.now }
 {
-    if bytes[0] != b'Q' {
-        return false;
-    }
-    if bytes[1] != b'H' {
-        return false;
-    }
-    bytes[2] == b'S'
+    bytes[0] == b'Q' && bytes[1] == b'H' && bytes[2] == b'S'
 }
 
 fn header_of(l: Layout, bytes: &[u8]) -> Header
@@ -144,82 +131,78 @@ fn kinds_fit(l: Layout, bytes: &[u8], n: usize) -> bool
     requires { Sound l }
     ensures { result ≡ below n (kind_fits l bytes.now) }
 {
-    let mut k: usize = 0;
-    while k < n {
+    for k in 0..n {
         let at = fields::start_of(l, bytes.len(), k);
         if LAST_KIND < fields::byte_at(bytes, at) {
             return false;
         }
-        k = k + 1;
     }
     true
 }
 
 // Open's first two refusals.
-pub fn counts_of(p: u32, m: u32) -> Counts
+pub fn counts_of(p: u32, m: u32) -> Result<(), Refusal>
     ensures { result ≡ counts_as p m }
 {
     if !numbers::processes_fit(p) {
-        return Counts::Refused(Refusal::ProcessCount);
+        return Err(Refusal::ProcessCount);
     }
     if !numbers::cells_fit(m) {
-        return Counts::Refused(Refusal::CellCount);
+        return Err(Refusal::CellCount);
     }
-    Counts::Fit
+    Ok(())
 }
 
 // A file whose records are in order is held to what open asks of p and m.
-fn opened(h: Header, n: usize) -> Reading
-    ensures { result ≡ opened_as h n }
+fn opened(header: Header, records: usize) -> Result<Schedule, Refusal>
+    ensures { result ≡ opened_as header records }
 {
-    match counts_of(h.p, h.m) {
-        Counts::Refused(r) => Reading::Refused(r),
-        Counts::Fit => Reading::Schedule(h, n),
-    }
+    counts_of(header.p, header.m)?;
+    Ok(Schedule { header, records })
 }
 
 // A file whose header is in order is held to its records, and then to open.
-fn records_of(l: Layout, bytes: &[u8], h: Header) -> Reading
+fn records_of(l: Layout, bytes: &[u8], header: Header) -> Result<Schedule, Refusal>
     requires { Sound l × (l.header ≤ length bytes.now) }
-    ensures { result ≡ records_as l bytes.now h }
+    ensures { result ≡ records_as l bytes.now header }
 {
     let body = bytes.len() - l.header;
     if body % l.stride != 0 {
-        return Reading::Refused(Refusal::RaggedRecords);
+        return Err(Refusal::RaggedRecords);
     }
-    let n = body / l.stride;
-    if !kinds_fit(l, bytes, n) {
-        return Reading::Refused(Refusal::RecordKind);
+    let records = body / l.stride;
+    if !kinds_fit(l, bytes, records) {
+        return Err(Refusal::RecordKind);
     }
-    opened(h, n)
+    opened(header, records)
 }
 
 // Reads a file laid out so.
-fn read_in(l: Layout, bytes: &[u8]) -> Reading
+fn read_in(l: Layout, bytes: &[u8]) -> Result<Schedule, Refusal>
     requires { Sound l }
     ensures { result ≡ read_in l bytes.now }
 {
     if FILE_BYTES < bytes.len() {
-        return Reading::Refused(Refusal::FileTooLong);
+        return Err(Refusal::FileTooLong);
     }
     if bytes.len() < l.header {
-        return Reading::Refused(Refusal::NotASchedule);
+        return Err(Refusal::NotASchedule);
     }
     if !marked(bytes) {
-        return Reading::Refused(Refusal::NotASchedule);
+        return Err(Refusal::NotASchedule);
     }
     if fields::number_at(bytes, 3, 2) != l.version {
-        return Reading::Refused(Refusal::Version);
+        return Err(Refusal::Version);
     }
-    let h = header_of(l, bytes);
-    if FILE_CELLS < h.m {
-        return Reading::Refused(Refusal::TooManyCells);
+    let header = header_of(l, bytes);
+    if FILE_CELLS < header.m {
+        return Err(Refusal::TooManyCells);
     }
-    records_of(l, bytes, h)
+    records_of(l, bytes, header)
 }
 
 // Reads a file of any bytes: the first refusal that holds is given.
-pub fn read(bytes: &[u8]) -> Reading
+pub fn read(bytes: &[u8]) -> Result<Schedule, Refusal>
     ensures { result ≡ read_of bytes.now }
 {
     read_in(VERSION_1, bytes)

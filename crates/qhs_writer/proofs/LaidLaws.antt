@@ -1,5 +1,6 @@
 -- Bytes laid into the buffer one after the other: a number, the header, a record, the records.
 -- Assumes nothing.
+use Rattle.std.specs.Prelude.{Option}
 use Prim.Native.Nat.{ℕ, zero, suc, ◌+◌, ◌*◌, ◌/◌, ◌%◌, ◌<◌, ◌≤◌}
 use mathlib.Core.Path.{◌≡◌, refl, sym, ap, ◌∙◌}
 use mathlib.Core.List.{List, [], ◌∷◌, ◌++◌}
@@ -9,7 +10,6 @@ use lib.ListN.{length, set, length-append, length-set}
 use lib.Seq.{set_split}
 use borrow.Author.Tests.{eq-eqb, ne_eqb}
 use Rattle.qhs.specs.declared.Header.{Header}
-use Rattle.byte_lists.specs.declared.Put.{Put}
 use Rattle.byte_lists.specs.Bytes.{splice, placed, put_of, end_of, bytes_of}
 use Rattle.byte_lists.specs.Places.{put_end, splice_none, splice_length, splice_more}
 use Rattle.qhs_writer.specs.declared.Entry.{Entry}
@@ -87,7 +87,7 @@ module _ (out₀ : List ℕ) (at width n : ℕ) (out : List ℕ) (rest i : ℕ) 
 
 -- ---- the header
 
-pub mark_laid : (out o : List ℕ) (p : Put) (a : ℕ) → header_bytes ≤ length out → placed p o ≡ put_of out 0 mark → a ≡ end_of p → Laid out 0 3 mark o a
+pub mark_laid : (out o : List ℕ) (p : Option ℕ) (a : ℕ) → header_bytes ≤ length out → placed p o ≡ put_of out 0 mark → a ≡ end_of p → Laid out 0 3 mark o a
 mark_laid out o p a h e f =
     let both = put_end p out o mark 0 (omega arith) e in
     record { is = refl; ends = f ∙ both.0; shows = both.1; sized = ap length both.1 ∙ splice_length out mark 0 (omega arith) }

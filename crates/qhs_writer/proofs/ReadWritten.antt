@@ -1,5 +1,7 @@
 -- What the reader accepts is written again as the same bytes, ignored fields put to zero.
 -- Assumes nothing.
+use Rattle.std.specs.Prelude.{Ok}
+use Rattle.qhs.specs.Qhs.{scheduled}
 use Prim.Native.Nat.{ℕ, zero, suc, ◌+◌, ◌<◌, ◌≤◌}
 use Rattle.std.specs.Prelude.{◌≡◌, true, ◌&&◌, List, [], ◌∷◌, ◌++◌, eqb, length, get_or}
 use Rattle.std.proofs.Math.Path.{refl, ap}
@@ -10,13 +12,11 @@ use Rattle.logic.specs.Truth.{and_left, and_right}
 use Rattle.logic.specs.BelowLaws.{below_all}
 use Rattle.logic.specs.Pick.{pick}
 use Rattle.qhs.specs.declared.Header.{Header}
-use Rattle.qhs.specs.declared.Reading.TheVariants as Reading
 use Rattle.qhs.specs.Qhs.{version1, most_kind, marked, version_of, header_of, record_start, record_in, record_at, records_in}
 use Rattle.byte_lists.specs.Bytes.{byte_at, number_at, splice, bytes_of}
 use Rattle.qhs.specs.Laws.{Schedule, schedule}
 use Rattle.byte_lists.proofs.Digits.{Bytes, number_one, part, bytes_of_lem}
 use Rattle.qhs_writer.specs.declared.Entry.{Entry}
-use Rattle.qhs_writer.specs.declared.Wrote.TheVariants as Wrote
 use Rattle.qhs_writer.specs.Writer.{header_bytes, record_bytes, version, count, entry_at, mark, front_bytes, back_bytes, head_bytes}
 use Rattle.qhs_writer.specs.Writer.{step_kind, write_kind, needed, entry_bytes, entries_below, file_of, known, all_known, page}
 use Rattle.qhs_writer.specs.Again.{listed, fields_of, ignored_from, kept_at, zeroed_below, zeroed}
@@ -189,7 +189,7 @@ module _ (s : List ℕ) (h : Header) (n : ℕ) (b : Bytes s) (g : Schedule versi
 
 pub what_is_read_is_written_again : ReadIsWritten
 what_is_read_is_written_again s h n out b e room =
-    let g = schedule s (Reading.Schedule h n) h n (sym e) refl in
+    let g = schedule s (scheduled h n) h n (sym e) refl in
     written h (fields_of s n) out (is_fine s h n b g out room)
-    ∙ ap (λ (k : ℕ). page (Wrote.Bytes k) (splice out 0 (file_of h (fields_of s n)))) (long s h n b g)
-    ∙ ap (λ (l : List ℕ). page (Wrote.Bytes (length s)) (splice out 0 l)) (same s h n b g)
+    ∙ ap (λ (k : ℕ). page (Ok k) (splice out 0 (file_of h (fields_of s n)))) (long s h n b g)
+    ∙ ap (λ (l : List ℕ). page (Ok (length s)) (splice out 0 l)) (same s h n b g)

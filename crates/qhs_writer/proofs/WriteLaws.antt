@@ -1,5 +1,7 @@
 -- Each case of writing a file, as a law of its definition.
 -- Assumes nothing.
+use Rattle.std.specs.Prelude.{Ok, Err}
+use Rattle.qhs.specs.Qhs.{Counts}
 use mathlib.Core.Path.{◌≡◌, refl, sym, ap, ◌∙◌}
 use mathlib.Core.Bool.{Bool, true, false, not}
 use mathlib.Core.List.{List, ◌++◌}
@@ -12,11 +14,9 @@ use Rattle.logic.specs.Below.{below}
 use Rattle.logic.specs.BelowLaws.{below_fails, below_next}
 use Rattle.refusals.specs.declared.Refusal.{Refusal}
 use Rattle.qhs.specs.declared.Header.{Header}
-use Rattle.qhs.specs.declared.Counts.{Counts}
 use Rattle.qhs.specs.Qhs.{most_bytes, most_records, most_file_cells, most_kind, counts_as}
 use Rattle.qhs.specs.Laws.{counted_as, counted}
 use Rattle.byte_lists.specs.Bytes.{splice}
-use Rattle.qhs_writer.specs.declared.Wrote.{Wrote}
 use Rattle.qhs_writer.specs.Writer.{header_bytes, record_bytes, Fields, count, head_bytes, entries_below, file_of, known, Page, page, write_of}
 use Rattle.qhs_writer.specs.Inner.{Laid, Few, filed_of}
 use Rattle.qhs_writer.specs.Sizes.{file_length}
@@ -48,11 +48,11 @@ module _ (h : Header) (f : Fields) (out : List ℕ) (n : ℕ) (q : Few f n) wher
   long : length (file_of h f) ≡ header_bytes + record_bytes * n
   long = file_length h f ∙ rw q.is
 
-  pub no_room : length out < header_bytes + record_bytes * n → page (Wrote.Refused Refusal.NoRoom) out ≡ filed_of h f out
+  pub no_room : length out < header_bytes + record_bytes * n → page (Err Refusal.NoRoom) out ≡ filed_of h f out
   no_room g = simp (lt-ltb (length out) (length (file_of h f)) (omega (arith, long)))
 
   pub written : (o o' : List ℕ) (a b : ℕ) → header_bytes + record_bytes * n ≤ length out → Laid out 0 header_bytes (head_bytes h) o a
-      → Laid o a (record_bytes * n) (entries_below f n) o' b → page (Wrote.Bytes b) o' ≡ filed_of h f out
+      → Laid o a (record_bytes * n) (entries_below f n) o' b → page (Ok b) o' ≡ filed_of h f out
   unfolding file_of
   written o o' a b g l k =
       let all = laid_then out o o' (head_bytes h) (entries_below f n) 0 header_bytes (record_bytes * n) a b (omega arith) l k in
@@ -62,7 +62,7 @@ module _ (h : Header) (f : Fields) (out : List ℕ) (n : ℕ) (q : Few f n) wher
       rw (ends, shows) (simp (le-ltb (length out) (length (file_of h f)) (omega (arith, long))))
 
 module _ (h : Header) (f : Fields) (out : List ℕ) (n : ℕ) (is : n ≡ count f) where
-  pub too_long : most_records < n → page (Wrote.Refused Refusal.FileTooLong) out ≡ write_of h f out
+  pub too_long : most_records < n → page (Err Refusal.FileTooLong) out ≡ write_of h f out
   too_long g = sym (over_long h f out (omega arith))
 
   module _ (fits : n ≤ most_records) where
@@ -72,7 +72,7 @@ module _ (h : Header) (f : Fields) (out : List ℕ) (n : ℕ) (is : n ≡ count 
     short : ltb most_bytes (length (file_of h f)) ≡ false
     short = le-ltb most_bytes (length (file_of h f)) (omega (arith, long h f out n few))
 
-    pub many_cells : most_file_cells < h.m → page (Wrote.Refused Refusal.TooManyCells) out ≡ write_of h f out
+    pub many_cells : most_file_cells < h.m → page (Err Refusal.TooManyCells) out ≡ write_of h f out
     unfolding write_of
     many_cells g = simp (short, lt-ltb _ _ g)
 
@@ -80,23 +80,23 @@ module _ (h : Header) (f : Fields) (out : List ℕ) (n : ℕ) (is : n ≡ count 
       all_known_lem : b ≡ below (count f) (known f.kinds)
       all_known_lem = eb ∙ rw is
 
-      pub unknown_kind : not b ≡ true → page (Wrote.Refused Refusal.RecordKind) out ≡ write_of h f out
+      pub unknown_kind : not b ≡ true → page (Err Refusal.RecordKind) out ≡ write_of h f out
       unfolding write_of
       unknown_kind g = simp (short, le-ltb _ _ small, sym all_known_lem ∙ not-true b g)
 
       module _ (kinds : not b ≡ false) (c : Counts) (counts : c ≡ counts_as h.p h.m) where
         abbrev comes : Counts → Page
-        comes x = counted_as (λ r. page (Wrote.Refused r) out) (filed_of h f out) x
+        comes x = counted_as (λ r. page (Err r) out) (filed_of h f out) x
 
         left : comes c ≡ write_of h f out
         unfolding write_of
         left =
             ap comes counts
-            ∙ counted (λ r. page (Wrote.Refused r) out) h.p h.m (filed_of h f out)
+            ∙ counted (λ r. page (Err r) out) h.p h.m (filed_of h f out)
             ∙ simp (short, le-ltb _ _ small, sym all_known_lem ∙ not-false b kinds)
 
-        pub not_counted : (r : Refusal) → c ≡ Counts.Refused r → page (Wrote.Refused r) out ≡ write_of h f out
+        pub not_counted : (r : Refusal) → c ≡ Err r → page (Err r) out ≡ write_of h f out
         not_counted r e = ap comes (sym e) ∙ left
 
-        pub left_to_room : (p : Page) → c ≡ Counts.Fit → p ≡ filed_of h f out → p ≡ write_of h f out
+        pub left_to_room : (p : Page) → c ≡ Ok tt → p ≡ filed_of h f out → p ≡ write_of h f out
         left_to_room p e g = g ∙ ap comes (sym e) ∙ left

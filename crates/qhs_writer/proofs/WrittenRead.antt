@@ -1,5 +1,6 @@
 -- What the writer writes, the reader accepts and gives back, ignored fields as zero.
 -- Assumes nothing.
+use Rattle.qhs.specs.Qhs.{scheduled}
 use Prim.Native.Nat.{ℕ, zero, suc, ◌+◌, ◌%◌, ◌^◌, ◌<◌, ◌≤◌}
 use Rattle.std.specs.Prelude.{◌≡◌, refl, Bool, true, false, eqb, length}
 use Rattle.std.proofs.Math.Path.{sym}
@@ -9,7 +10,6 @@ use Rattle.numbers.specs.Numbers.{most_processes}
 use Rattle.logic.specs.BelowLaws.{below_all, below_at}
 use Rattle.logic.specs.Pick.{pick}
 use Rattle.qhs.specs.declared.Header.{Header}
-use Rattle.qhs.specs.declared.Reading.{Reading}
 use Rattle.qhs.specs.Qhs.{version1, most_file_cells, most_kind, marked, version_of, header_of, fields_at, record_start}
 use Rattle.qhs.specs.Qhs.{record_in, record_at, body_bytes, records_in, kind_fits, kinds_fit, read_in, read_of}
 use Rattle.byte_lists.specs.Bytes.{number_at, bytes_of}
@@ -101,7 +101,7 @@ head_version h t = refl
 -- ---- the whole file
 
 -- nothing in a schedule's bytes speaks against it
-accepts : (s : List ℕ) (h : Header) (n : ℕ) → Schedule version1 s h n → read_of s ≡ Reading.Schedule h n
+accepts : (s : List ℕ) (h : Header) (n : ℕ) → Schedule version1 s h n → read_of s ≡ scheduled h n
 unfolding read_of read_in
 accepts s h n g =
     let whole : body_bytes version1 s % record_bytes ≡ 0 = omega (arith, g.bytes) in
@@ -111,7 +111,7 @@ accepts s h n g =
     let few : (header_of version1 s).m ≤ most_file_cells = rw g.header at g.m_few in
     let known : kinds_fit version1 s ≡ true =
     below_all (records_in version1 s) (kind_fits version1 s) (λ k l. le-leb _ _ (g.kinds k (omega (arith, many, l)))) in
-    let read : read_of s ≡ Reading.Schedule (header_of version1 s) (records_in version1 s) =
+    let read : read_of s ≡ scheduled (header_of version1 s) (records_in version1 s) =
     simp (
       le-ltb _ _ g.bytes_high,
       le-leb _ _ begins,
@@ -125,7 +125,7 @@ accepts s h n g =
       le-leb _ _ q.m_low,
       le-leb _ _ q.m_high,
     ) in
-    read ∙ ap (λ (x : Header). Reading.Schedule x (records_in version1 s)) (sym g.header) ∙ ap (λ (k : ℕ). Reading.Schedule h k) many
+    read ∙ ap (λ (x : Header). scheduled x (records_in version1 s)) (sym g.header) ∙ ap (λ (k : ℕ). scheduled h k) many
 
 pick_below : (b : Bool) (x most : ℕ) → 0 < most → x < most → pick b 0 x < most
 pick_below true x most z h = z
@@ -169,7 +169,7 @@ module _ (h : Header) (f : Fields) (out : List ℕ) (t : Typed h f) (g : Fine h 
         kinds = λ k l. rw (record_is k l) (kind_low k l);
       }
 
-  file_read : read_of (file_of h f) ≡ Reading.Schedule h (count f)
+  file_read : read_of (file_of h f) ≡ scheduled h (count f)
   file_read = accepts (file_of h f) h (count f) file_schedule
 
 pub what_is_written_is_read : WrittenIsRead

@@ -1,14 +1,15 @@
 -- What is claimed of the schedule file's writer. Definitions only: `Outcomes`, `WrittenRead` and `ReadWritten` have the proofs.
 -- Assumes nothing.
+use Rattle.std.specs.Prelude.{Ok, Err}
+use Rattle.qhs.specs.Qhs.{scheduled}
+use Rattle.qhs_writer.specs.Writer.{Wrote}
 use Rattle.std.specs.Prelude.{ℕ, ◌^◌, ◌<◌, ◌≤◌, ◌≡◌, List, length, get_or, take, drop}
 use Rattle.refusals.specs.declared.Refusal.{Refusal}
 use Rattle.qhs.specs.declared.Header.{Header}
-use Rattle.qhs.specs.declared.Reading.TheVariants as Reading
 use Rattle.qhs.specs.Qhs.{most_records, record_at, read_of}
 use Rattle.qhs.specs.Laws.{Words}
 use Rattle.byte_lists.proofs.Digits.{Bytes}
 use Rattle.byte_lists.specs.Bytes.{splice}
-use Rattle.qhs_writer.specs.declared.Wrote.{Wrote}
 use Rattle.qhs_writer.specs.Writer.{Fields, count, entry_at, needed, page, write_of}
 use Rattle.qhs_writer.specs.Again.{fields_of, read_as, zeroed}
 
@@ -21,17 +22,17 @@ OneFile =
 -- Bytes after the file stay.
 abbrev pub BytesAfterStay : Type 0
 BytesAfterStay =
-    (h : Header) (f : Fields) (out : List ℕ) (n : ℕ) (o : List ℕ) → page (Wrote.Bytes n) o ≡ write_of h f out
+    (h : Header) (f : Fields) (out : List ℕ) (n : ℕ) (o : List ℕ) → page (Ok n) o ≡ write_of h f out
     → (length o ≡ length out) × (drop n o ≡ drop n out)
 
 -- 16: of more than 8,189 records nothing else is looked at.
 abbrev pub OverLong : Type 0
-OverLong = (h : Header) (f : Fields) (out : List ℕ) → most_records < count f → write_of h f out ≡ page (Wrote.Refused Refusal.FileTooLong) out
+OverLong = (h : Header) (f : Fields) (out : List ℕ) → most_records < count f → write_of h f out ≡ page (Err Refusal.FileTooLong) out
 
 -- A refusal writes nothing.
 abbrev pub RefusedFile : Type 0
 RefusedFile =
-    (h : Header) (f : Fields) (out : List ℕ) (r : Refusal) (o : List ℕ) → page (Wrote.Refused r) o ≡ write_of h f out → o ≡ out
+    (h : Header) (f : Fields) (out : List ℕ) (r : Refusal) (o : List ℕ) → page (Err r) o ≡ write_of h f out → o ≡ out
 
 -- The numbers handed in fit their types: first and step 32 bits, the fill 64; a process 8 bits, a cell 16, a value 32.
 pub record Typed (h : Header) (f : Fields) : Type 0 where
@@ -43,11 +44,11 @@ pub record Typed (h : Header) (f : Fields) : Type 0 where
 -- What it writes, our reader accepts and gives back, ignored fields as zero.
 abbrev pub WrittenIsRead : Type 0
 WrittenIsRead =
-    (h : Header) (f : Fields) (out : List ℕ) (n : ℕ) (o : List ℕ) → Typed h f → page (Wrote.Bytes n) o ≡ write_of h f out
-    → (read_of (take n o) ≡ Reading.Schedule h (count f)) × ((k : ℕ) → k < count f → record_at (take n o) k ≡ read_as (needed (entry_at f k)))
+    (h : Header) (f : Fields) (out : List ℕ) (n : ℕ) (o : List ℕ) → Typed h f → page (Ok n) o ≡ write_of h f out
+    → (read_of (take n o) ≡ scheduled h (count f)) × ((k : ℕ) → k < count f → record_at (take n o) k ≡ read_as (needed (entry_at f k)))
 
 -- What the reader accepts is written again as the same bytes, ignored fields put to zero.
 abbrev pub ReadIsWritten : Type 0
 ReadIsWritten =
-    (s : List ℕ) (h : Header) (n : ℕ) (out : List ℕ) → Bytes s → read_of s ≡ Reading.Schedule h n → length s ≤ length out
-    → write_of h (fields_of s n) out ≡ page (Wrote.Bytes (length s)) (splice out 0 (zeroed s))
+    (s : List ℕ) (h : Header) (n : ℕ) (out : List ℕ) → Bytes s → read_of s ≡ scheduled h n → length s ≤ length out
+    → write_of h (fields_of s n) out ≡ page (Ok (length s)) (splice out 0 (zeroed s))

@@ -1,12 +1,12 @@
 -- What functions inside the crate ask and promise; no statement cites it.
 -- Assumes nothing.
+use Rattle.std.specs.Prelude.{Ok, Err}
 use Rattle.std.specs.Prelude.{ℕ, ◌+◌, ◌*◌, ◌≤◌, ◌≡◌, List, [], ◌∷◌, ltb, length}
 use Rattle.refusals.specs.Orders.{◌gives◌, orders}
 use Rattle.refusals.specs.declared.Refusal.TheVariants as Refusal
 use Rattle.qhs.specs.declared.Header.{Header}
 use Rattle.qhs.specs.Qhs.{most_records}
 use Rattle.byte_lists.specs.Bytes.{splice}
-use Rattle.qhs_writer.specs.declared.Wrote.TheVariants as Wrote
 use Rattle.qhs_writer.specs.Writer.{record_bytes, Fields, count, file_of, Page, page}
 
 -- So many bytes were put into a buffer, and end there.
@@ -33,6 +33,6 @@ pub record Few (f : Fields) (n : ℕ) : Type 0 where
 abbrev pub filed_of : Header → Fields → List ℕ → Page
 filed_of h f out =
     orders
-    (λ r. page (Wrote.Refused r) out)
+    (λ r. page (Err r) out)
     (ltb (length out) (length (file_of h f)) gives Refusal.NoRoom ∷ [])
-    (page (Wrote.Bytes (length (file_of h f))) (splice out 0 (file_of h f)))
+    (page (Ok (length (file_of h f))) (splice out 0 (file_of h f)))

@@ -1,5 +1,6 @@
 -- What a page comes to: one outcome, a refusal that writes nothing, and a file after which all bytes stay.
 -- Assumes nothing.
+use Rattle.std.specs.Prelude.{Ok, Err}
 use Rattle.std.specs.Prelude.{ℕ, ◌+◌, ◌≤◌, ◌≡◌, Bool, true, false, List, [], ◌∷◌, take}
 use Rattle.std.proofs.Common.{sym, ◌∙◌, ltb-false, lt-ltb, le-ltb, le-leb}
 use Rattle.std.proofs.Math.Path.{ap}
@@ -17,7 +18,6 @@ use Rattle.qhs.specs.Qhs.{most_bytes, most_file_cells}
 use Rattle.qhs.specs.Laws.{Counted, none_counted}
 use Rattle.byte_lists.specs.Bytes.{splice}
 use Rattle.byte_lists.specs.Places.{splice_length}
-use Rattle.qhs_writer.specs.declared.Wrote.{Wrote}
 use Rattle.qhs_writer.specs.Writer.{Fields, file_of, all_known, write_refusals, Page, page, write_of}
 use Rattle.qhs_writer.specs.Claims.{OneFile, OverLong, BytesAfterStay, RefusedFile}
 use Rattle.qhs_writer.specs.Sizes.{file_length}
@@ -41,7 +41,7 @@ pub record Fine (h : Header) (f : Fields) (out : List ℕ) : Type 0 where
   pub room : length (file_of h f) ≤ length out
 
 abbrev pub filed : Header → Fields → List ℕ → Page
-filed h f out = page (Wrote.Bytes (length (file_of h f))) (splice out 0 (file_of h f))
+filed h f out = page (Ok (length (file_of h f))) (splice out 0 (file_of h f))
 
 -- then it is written,
 pub written : (h : Header) (f : Fields) (out : List ℕ) → Fine h f out → write_of h f out ≡ filed h f out
@@ -60,13 +60,13 @@ written h f out g =
     )
 
 -- and only then
-apart : (r : Refusal) (out o : List ℕ) (n : ℕ) → page (Wrote.Refused r) out ≡ page (Wrote.Bytes n) o → ⊥
+apart : (r : Refusal) (out o : List ℕ) (n : ℕ) → page (Err r) out ≡ page (Ok n) o → ⊥
 apart r out o n e = let k = ap (λ (p : Page). p.answer) e in let z : ◌≡◌ {A = ℕ} 0 1 = cc in omega arith
 
-pub fine : (h : Header) (f : Fields) (out : List ℕ) (n : ℕ) (o : List ℕ) → page (Wrote.Bytes n) o ≡ write_of h f out → Fine h f out
+pub fine : (h : Header) (f : Fields) (out : List ℕ) (n : ℕ) (o : List ℕ) → page (Ok n) o ≡ write_of h f out → Fine h f out
 unfolding write_of
 fine h f out n o e =
-    let none = (past (λ r. page (Wrote.Refused r) out) (write_refusals h f out) (filed h f out) (page (Wrote.Bytes n) o) (λ r. apart r out o n) (sym e)).0 in
+    let none = (past (λ r. page (Err r) out) (write_refusals h f out) (filed h f out) (page (Ok n) o) (λ r. apart r out o n) (sym e)).0 in
     let counts = none.1.1.1 in
     record {
       fits = ltb-false most_bytes (length (file_of h f)) none.0;
@@ -77,8 +77,8 @@ fine h f out n o e =
     }
 
 -- the file, and what stands after it
-module _ (h : Header) (f : Fields) (out : List ℕ) (n : ℕ) (o : List ℕ) (e : page (Wrote.Bytes n) o ≡ write_of h f out) where
-  is_filed : page (Wrote.Bytes n) o ≡ filed h f out
+module _ (h : Header) (f : Fields) (out : List ℕ) (n : ℕ) (o : List ℕ) (e : page (Ok n) o ≡ write_of h f out) where
+  is_filed : page (Ok n) o ≡ filed h f out
   is_filed = e ∙ written h f out (fine h f out n o e)
 
   ends : n ≡ length (file_of h f)
@@ -105,13 +105,13 @@ bytes_after_stay h f out n o e = rest_stays h f out n o e
 
 -- what an order gives is the refused page or the work
 kept : (out o : List ℕ) (r : Refusal) (n : ℕ) (o' : List ℕ) (rules : List Rule)
-    → page (Wrote.Refused r) o ≡ orders (λ x. page (Wrote.Refused x) out) rules (page (Wrote.Bytes n) o') → o ≡ out
+    → page (Err r) o ≡ orders (λ x. page (Err x) out) rules (page (Ok n) o') → o ≡ out
 kept out o r n o' [] e = absurd (apart r o o' n e)
 kept out o r n o' (rule ∷ rules) e = by (λ y. kept out o r n o' rules y) rule.when e
   where
-    by : (page (Wrote.Refused r) o ≡ orders (λ x. page (Wrote.Refused x) out) rules (page (Wrote.Bytes n) o') → o ≡ out) → (b : Bool)
-        → page (Wrote.Refused r) o
-        ≡ pick b (page (Wrote.Refused rule.gives) out) (orders (λ x. page (Wrote.Refused x) out) rules (page (Wrote.Bytes n) o'))
+    by : (page (Err r) o ≡ orders (λ x. page (Err x) out) rules (page (Ok n) o') → o ≡ out) → (b : Bool)
+        → page (Err r) o
+        ≡ pick b (page (Err rule.gives) out) (orders (λ x. page (Err x) out) rules (page (Ok n) o'))
         → o ≡ out
     by later true y = ap (λ (p : Page). p.out) y
     by later false y = later y

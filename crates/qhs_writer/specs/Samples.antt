@@ -1,11 +1,11 @@
 -- What is handed in, and the page that it comes to, as one statement over a list. 16 has a statement of its own, `OverLong`.
 -- Assumes nothing.
+use Rattle.std.specs.Prelude.{Ok, Err}
 use Rattle.std.specs.Prelude.{ℕ, ◌-◌, ◌^◌, ◌≡◌, refl, List, [], ◌∷◌, ◌++◌, replicate}
 use Rattle.logic.specs.Below.{below}
 use Rattle.refusals.specs.declared.Refusal.{Refusal}
 use Rattle.qhs.specs.declared.Header.{Header}
 use Rattle.byte_lists.specs.Bytes.{word, splice, bytes_of}
-use Rattle.qhs_writer.specs.declared.Wrote.TheVariants as Wrote
 use Rattle.qhs_writer.specs.Writer.{Fields, fields, front_bytes, back_bytes, head_bytes, entry_bytes, entries_below, file_of, Page, page, write_of}
 
 pub record Sample : Type 0 where
@@ -46,10 +46,10 @@ abbrev pub unknown : Fields
 unknown = fields (4 ∷ []) (0 ∷ []) (1 ∷ []) (9 ∷ [])
 
 abbrev pub writes : Header → Fields → List ℕ → ℕ → List ℕ → Sample
-writes h f out n o = record { header = h; given = f; out = out; comes = page (Wrote.Bytes n) o }
+writes h f out n o = record { header = h; given = f; out = out; comes = page (Ok n) o }
 
 abbrev pub refuses : Header → Fields → List ℕ → Refusal → Sample
-refuses h f out r = record { header = h; given = f; out = out; comes = page (Wrote.Refused r) out }
+refuses h f out r = record { header = h; given = f; out = out; comes = page (Err r) out }
 
 abbrev pub samples : List Sample
 samples =

@@ -1,5 +1,6 @@
 -- The schedule file's writer, version 1: a header and records as bytes in a lent buffer: document 02, W2.
 -- Assumes nothing.
+use Rattle.std.specs.Prelude.{Result, Ok, Err}
 use Rattle.std.specs.Prelude.{ℕ, zero, suc, min, Bool, not, List, [], ◌∷◌, ◌++◌, leb, ltb, eqb, length, get_or}
 use Rattle.byte_lists.specs.Bytes.{bytes_of}
 use Rattle.logic.specs.Below.{below}
@@ -10,7 +11,6 @@ use Rattle.qhs.specs.declared.Header.{Header}
 use Rattle.qhs.specs.Qhs.{version1, most_bytes, most_file_cells, most_kind, open_refusals}
 use Rattle.byte_lists.specs.Bytes.{word, splice}
 use Rattle.qhs_writer.specs.declared.Entry.{Entry}
-use Rattle.qhs_writer.specs.declared.Wrote.{Wrote}
 
 -- The writer's files are of version 1, with 16-bit cells.
 abbrev pub version : ℕ
@@ -97,6 +97,10 @@ write_refusals h f out =
     ∷ not (all_known f) gives Refusal.RecordKind
     ∷ (open_refusals h.p h.m ++ (ltb (length out) (length (file_of h f)) gives Refusal.NoRoom ∷ []))
 
+-- How many bytes were written, or why none was.
+abbrev pub Wrote : Type 0
+Wrote = Result ℕ Refusal
+
 -- What writing determines: the answer and the buffer. The header and the fields are only read.
 pub record Page : Type 0 where
   pub answer : Wrote
@@ -107,9 +111,9 @@ page answer out = record { answer = answer; out = out }
 
 -- With a refusal nothing is written.
 abbrev pub nothing_written : List ℕ → Refusal → Page
-nothing_written out r = page (Wrote.Refused r) out
+nothing_written out r = page (Err r) out
 
 -- Bytes after the file stay.
 unfoldable pub write_of : Header → Fields → List ℕ → Page
 write_of h f out =
-    orders (nothing_written out) (write_refusals h f out) (page (Wrote.Bytes (length (file_of h f))) (splice out 0 (file_of h f)))
+    orders (nothing_written out) (write_refusals h f out) (page (Ok (length (file_of h f))) (splice out 0 (file_of h f)))

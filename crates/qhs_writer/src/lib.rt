@@ -8,7 +8,7 @@ ghost use Rattle.qhs_writer.specs.Inner.{Few, filed_of};
 
 mod put;
 
-use qhs::{Counts, FILE_CELLS, FILE_RECORDS, Header, LAST_KIND, VERSION_1};
+use qhs::{FILE_CELLS, FILE_RECORDS, Header, LAST_KIND, VERSION_1};
 use refusals::Refusal;
 
 // A record as it is written. Its cell has 16 bits, whatever the reader's has.
@@ -20,19 +20,11 @@ pub struct Entry {
     pub value: u32,
 }
 
-// How many bytes were written, or why none was.
-#[derive(Clone, Copy)]
-pub enum Wrote {
-    Bytes(usize),
-    Refused(Refusal),
-}
-
 // As many records as the shortest slice has.
 fn count(kinds: &[u8], processes: &[u8], cells: &[u16], values: &[u32]) -> usize
     ensures { result ≡ count (fields kinds.now processes.now cells.now values.now) }
 {
-    let ends = cells.len().min(values.len());
-    kinds.len().min(processes.len()).min(ends)
+    kinds.len().min(processes.len().min(cells.len().min(values.len())))
 }
 
 // Whether the first n kinds are known.
@@ -40,12 +32,10 @@ fn known(kinds: &[u8], n: usize) -> bool
     requires { n ≤ length kinds.now }
     ensures { result ≡ below n (known kinds.now) }
 {
-    let mut k: usize = 0;
-    while k < n {
+    for k in 0..n {
         if LAST_KIND < kinds[k] {
             return false;
         }
-        k = k + 1;
     }
     true
 }
@@ -59,20 +49,20 @@ fn filed(
     values: &[u32],
     n: usize,
     out: &mut [u8],
-) -> Wrote
+) -> Result<usize, Refusal>
     requires { Few (fields kinds.now processes.now cells.now values.now) n }
     ensures { page result out.new
         ≡ filed_of h (fields kinds.now processes.now cells.now values.now) out.old }
 {
     if out.len() < VERSION_1.header + VERSION_1.stride * n {
-        return Wrote::Refused(Refusal::NoRoom);
+        return Err(Refusal::NoRoom);
     }
     let start = put::header(h, out);
     let end = put::entries(kinds, processes, cells, values, n, start, out);
-    Wrote::Bytes(end)
+    Ok(end)
 }
 
-// Writes the file of a header and records, which are handed in as a slice for each field. Fields that a kind doesn't need are put
+// Writes the file of a header and records; how many bytes it has. The records are handed in as a slice for each field. Fields that a kind doesn't need are put
 // to zero. A refusal writes nothing.
 pub fn write(
     h: Header,
@@ -81,22 +71,20 @@ pub fn write(
     cells: &[u16],
     values: &[u32],
     out: &mut [u8],
-) -> Wrote
+) -> Result<usize, Refusal>
     ensures { page result out.new
         ≡ write_of h (fields kinds.now processes.now cells.now values.now) out.old }
 {
     let n = count(kinds, processes, cells, values);
     if FILE_RECORDS < n {
-        return Wrote::Refused(Refusal::FileTooLong);
+        return Err(Refusal::FileTooLong);
     }
     if FILE_CELLS < h.m {
-        return Wrote::Refused(Refusal::TooManyCells);
+        return Err(Refusal::TooManyCells);
     }
     if !known(kinds, n) {
-        return Wrote::Refused(Refusal::RecordKind);
+        return Err(Refusal::RecordKind);
     }
-    match qhs::counts_of(h.p, h.m) {
-        Counts::Refused(r) => Wrote::Refused(r),
-        Counts::Fit => filed(h, kinds, processes, cells, values, n, out),
-    }
+    qhs::counts_of(h.p, h.m)?;
+    filed(h, kinds, processes, cells, values, n, out)
 }

@@ -1,5 +1,5 @@
 // The parts of a file into a lent buffer: little-endian numbers, the header, the records.
-ghost use Rattle.std.specs.Prelude.{◌≡◌, ◌+◌, ◌*◌, ◌%◌, ◌≤◌, length};
+ghost use Rattle.std.specs.Prelude.{◌≡◌, ◌+◌, ◌*◌, ◌≤◌, length};
 ghost use Rattle.qhs_writer.specs.Writer.{header_bytes, record_bytes, fields, mark, front_bytes, back_bytes, head_bytes, entry_bytes, entries_below, needed};
 ghost use Rattle.byte_lists.specs.Bytes.{bytes_of};
 ghost use Rattle.qhs_writer.specs.Inner.{Laid, Within};
@@ -12,12 +12,6 @@ const STEP: u8 = 0;
 
 const WRITE: u8 = 2;
 
-fn low_byte(n: u64) -> u8
-    ensures { result ≡ n % 256 }
-{
-    (n % 256) as u8
-}
-
 // The little-endian bytes of a number, `width` of them.
 fn number(out: &mut [u8], at: usize, width: usize, n: u64) -> usize
     requires { at + width ≤ length out.old }
@@ -25,11 +19,9 @@ fn number(out: &mut [u8], at: usize, width: usize, n: u64) -> usize
         out.new result }
 {
     let mut rest = n;
-    let mut i: usize = 0;
-    while i < width {
-        out[at + i] = low_byte(rest);
-        rest = rest / 256;
-        i = i + 1;
+    for i in 0..width {
+        out[at + i] = (rest % 256) as u8;
+        rest /= 256;
     }
     at + width
 }
@@ -39,7 +31,7 @@ fn mark(out: &mut [u8]) -> usize
     requires { header_bytes ≤ length out.old }
     ensures { Laid out.old 0 3 mark out.new result }
 {
-    byte_lists::end_of(byte_lists::put_bytes(out, 0, b"QHS"))
+    byte_lists::put_bytes(out, 0, b"QHS").unwrap_or(0)
 }
 
 // The header up to its sizes.
@@ -120,8 +112,7 @@ pub fn entries(
         out.new result }
 {
     let mut at = start;
-    let mut k: usize = 0;
-    while k < n {
+    for k in 0..n {
         let e = Entry {
             kind: kinds[k],
             process: processes[k],
@@ -129,7 +120,6 @@ pub fn entries(
             value: values[k],
         };
         at = entry(needed(e), at, out);
-        k = k + 1;
     }
     at
 }

@@ -62,8 +62,3 @@ row Refusal.NothingWritten = stands 18 refl
 
 abbrev pub number_of : Refusal → ℕ
 number_of r = (row r).number
-
--- The same, told from the number.
-pub record Numbered (r : Refusal) (n : ℕ) : Type 0 where
-  pub is : r ≡ refusal_of n
-  pub own : n ≡ number_of (refusal_of n)

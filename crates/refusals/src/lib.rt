@@ -2,94 +2,53 @@
 #![tactic(auto)]
 
 ghost use Rattle.std.specs.Prelude.{◌≡◌};
-ghost use Rattle.refusals.specs.Numbers.{number_of, refusal_of, Numbered};
+ghost use Rattle.refusals.specs.Numbers.{number_of, refusal_of};
 
-#[derive(Clone, Copy)]
+#[derive(Clone, Copy, PartialEq, Eq)]
 pub enum Refusal {
     // Open: p is 0 or over the most.
-    ProcessCount,
+    ProcessCount = 1,
     // Open: m is 0 or over the most.
-    CellCount,
+    CellCount = 2,
     // Open: a lent length is wrong.
-    LentLength,
+    LentLength = 3,
     // The process is not below p.
-    NoSuchProcess,
+    NoSuchProcess = 4,
     // The cell is not below m, or the hour is not one of the grid's.
-    NoSuchCell,
+    NoSuchCell = 5,
     // Begin: this process has an operation under way.
-    UnderWay,
+    UnderWay = 6,
     // Step: this process has none.
-    NothingUnderWay,
+    NothingUnderWay = 7,
     // The lent lengths are not those of the state's p and m.
-    OtherLengths,
+    OtherLengths = 8,
     // A number of the state, a word to be touched, a draw or a new number is out of range.
-    OutOfRange,
+    OutOfRange = 9,
     // Hour summary: some operation is under way.
-    AtWork,
+    AtWork = 10,
     // File: too short for a header, or the mark is wrong.
-    NotASchedule,
+    NotASchedule = 11,
     // File: another version.
-    Version,
+    Version = 12,
     // File: more cells than a schedule may have.
-    TooManyCells,
+    TooManyCells = 13,
     // File: the bytes after the header make no whole records.
-    RaggedRecords,
+    RaggedRecords = 14,
     // File: a record of no known kind.
-    RecordKind,
+    RecordKind = 15,
     // File: too long.
-    FileTooLong,
+    FileTooLong = 16,
     // The text does not fit the lent buffer.
-    NoRoom,
+    NoRoom = 17,
     // Hour summary: none of the four quarters is written.
-    NothingWritten,
+    NothingWritten = 18,
 }
 
-// The refusals at their numbers, from 0 on; at a number of no row, the one that any other number has.
-const TABLE: [Refusal; 19] = [
-    Refusal::NothingWritten,
-    Refusal::ProcessCount,
-    Refusal::CellCount,
-    Refusal::LentLength,
-    Refusal::NoSuchProcess,
-    Refusal::NoSuchCell,
-    Refusal::UnderWay,
-    Refusal::NothingUnderWay,
-    Refusal::OtherLengths,
-    Refusal::OutOfRange,
-    Refusal::AtWork,
-    Refusal::NotASchedule,
-    Refusal::Version,
-    Refusal::TooManyCells,
-    Refusal::RaggedRecords,
-    Refusal::RecordKind,
-    Refusal::FileTooLong,
-    Refusal::NoRoom,
-    Refusal::NothingWritten,
-];
+impl From<Refusal> for u32 {
+    ghost from_gives = { λ r n. n ≡ number_of r };
 
-// Where the table has a refusal.
-fn row(r: Refusal) -> u32
-    ensures { Numbered r result }
-{
-    match r {
-        Refusal::ProcessCount => 1,
-        Refusal::CellCount => 2,
-        Refusal::LentLength => 3,
-        Refusal::NoSuchProcess => 4,
-        Refusal::NoSuchCell => 5,
-        Refusal::UnderWay => 6,
-        Refusal::NothingUnderWay => 7,
-        Refusal::OtherLengths => 8,
-        Refusal::OutOfRange => 9,
-        Refusal::AtWork => 10,
-        Refusal::NotASchedule => 11,
-        Refusal::Version => 12,
-        Refusal::TooManyCells => 13,
-        Refusal::RaggedRecords => 14,
-        Refusal::RecordKind => 15,
-        Refusal::FileTooLong => 16,
-        Refusal::NoRoom => 17,
-        Refusal::NothingWritten => 18,
+    fn from(r: Refusal) -> u32 {
+        r as u32
     }
 }
 
@@ -97,17 +56,31 @@ fn row(r: Refusal) -> u32
 pub fn number(r: Refusal) -> u32
     ensures { result ≡ number_of r }
 {
-    row(r)
+    u32::from(r)
 }
 
 // The refusal of a number of the table; of any other number, NothingWritten.
 pub fn of_number(n: u32) -> Refusal
     ensures { result ≡ refusal_of n }
 {
-    let k = n as usize;
-    if k < TABLE.len() {
-        TABLE[k]
-    } else {
-        Refusal::NothingWritten
+    match n {
+        1 => Refusal::ProcessCount,
+        2 => Refusal::CellCount,
+        3 => Refusal::LentLength,
+        4 => Refusal::NoSuchProcess,
+        5 => Refusal::NoSuchCell,
+        6 => Refusal::UnderWay,
+        7 => Refusal::NothingUnderWay,
+        8 => Refusal::OtherLengths,
+        9 => Refusal::OutOfRange,
+        10 => Refusal::AtWork,
+        11 => Refusal::NotASchedule,
+        12 => Refusal::Version,
+        13 => Refusal::TooManyCells,
+        14 => Refusal::RaggedRecords,
+        15 => Refusal::RecordKind,
+        16 => Refusal::FileTooLong,
+        17 => Refusal::NoRoom,
+        _ => Refusal::NothingWritten,
     }
 }

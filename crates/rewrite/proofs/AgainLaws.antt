@@ -1,5 +1,8 @@
 -- Each case of the rewriting program's output, as a law of its definition.
 -- Assumes nothing.
+use Rattle.std.specs.Prelude.{Ok, Err, Some}
+use Rattle.qhs.specs.Qhs.{Reading, scheduled}
+use Rattle.qhs_writer.specs.Writer.{Wrote}
 use Prim.Native.Nat.{ℕ, ◌+◌, ◌^◌, ◌<◌, ◌≤◌}
 use mathlib.Core.Path.{◌≡◌, refl, sym, ap, ◌∙◌}
 use mathlib.Core.List.{List}
@@ -10,15 +13,12 @@ use lib.Seq.{take-suc-set, take_all}
 use Rattle.refusals.specs.declared.Refusal.{Refusal}
 use Rattle.qhs.specs.declared.Header.{Header}
 use Rattle.qhs.specs.declared.Record.{Record}
-use Rattle.qhs.specs.declared.Reading.{Reading}
 use Rattle.qhs.specs.Qhs.{version1, most_records, record_in, record_at, read_of}
 use Rattle.qhs.specs.Laws.{schedule}
 use Rattle.byte_lists.proofs.Digits.{Bytes, number_below}
 use Rattle.qhs.specs.Parts.{part_length}
-use Rattle.byte_lists.specs.declared.Put.TheVariants as Put
 use Rattle.text.specs.Text.{file_refused_line}
 use Rattle.byte_lists.specs.Bytes.{Placed, placed, put_of}
-use Rattle.qhs_writer.specs.declared.Wrote.{Wrote}
 use Rattle.qhs_writer.specs.Writer.{Fields, fields, Page, page, write_of}
 use Rattle.qhs_writer.specs.Again.{listed, fields_of}
 use Rattle.rewrite.specs.Again.{shown_as, shown, written, again_as, again_of}
@@ -103,10 +103,10 @@ room_for n most h =
 -- ---- what is printed
 
 module _ (q : Page) (w : Wrote) (out : List ℕ) (e : page w out ≡ q) where
-  pub printed_file : (end : ℕ) → w ≡ Wrote.Bytes end → placed (Put.End end) out ≡ shown q
+  pub printed_file : (end : ℕ) → w ≡ Ok end → placed (Some end) out ≡ shown q
   printed_file end f = ap (shown_as out) (sym f) ∙ ap shown e
 
-  pub printed_refused : (r : Refusal) (p : Placed) → w ≡ Wrote.Refused r → p ≡ put_of out 0 (file_refused_line r) → p ≡ shown q
+  pub printed_refused : (r : Refusal) (p : Placed) → w ≡ Err r → p ≡ put_of out 0 (file_refused_line r) → p ≡ shown q
   printed_refused r p f g = g ∙ ap (shown_as out) (sym f) ∙ ap shown e
 
 pub shows : (bytes : List ℕ) (h : Header) (n : ℕ) (f : Fields) (out : List ℕ) (p : Placed) → f ≡ fields_of bytes n → p ≡ shown (write_of h f out)
@@ -116,14 +116,14 @@ shows bytes h n f out p e g = g ∙ ap (λ (x : Fields). shown (write_of h x out
 
 -- ---- the file
 
-pub few_records : (bytes : List ℕ) (is : Reading) (h : Header) (n : ℕ) → is ≡ read_of bytes → is ≡ Reading.Schedule h n → n ≤ most_records
+pub few_records : (bytes : List ℕ) (is : Reading) (h : Header) (n : ℕ) → is ≡ read_of bytes → is ≡ scheduled h n → n ≤ most_records
 few_records bytes is h n read e = (schedule bytes is h n read e).n_high
 
 module _ (bytes out : List ℕ) (is : Reading) (read : is ≡ read_of bytes) (r : Placed) where
-  pub again_refused : (f : Refusal) → is ≡ Reading.Refused f → r ≡ put_of out 0 (file_refused_line f) → r ≡ again_of bytes out
+  pub again_refused : (f : Refusal) → is ≡ Err f → r ≡ put_of out 0 (file_refused_line f) → r ≡ again_of bytes out
   unfolding again_of
   again_refused f e g = g ∙ ap (λ (x : Reading). again_as bytes out x) (sym e ∙ read)
 
-  pub again_schedule : (h : Header) (n : ℕ) → is ≡ Reading.Schedule h n → r ≡ written bytes h n out → r ≡ again_of bytes out
+  pub again_schedule : (h : Header) (n : ℕ) → is ≡ scheduled h n → r ≡ written bytes h n out → r ≡ again_of bytes out
   unfolding again_of
   again_schedule h n e g = g ∙ ap (λ (x : Reading). again_as bytes out x) (sym e ∙ read)

@@ -7,9 +7,7 @@ ghost use Rattle.qhs_writer.specs.Again.{fields_of};
 ghost use Rattle.rewrite.specs.Again.{shown, written, again_of};
 ghost use Rattle.rewrite.specs.Inner.{Room};
 
-use byte_lists::Put;
-use qhs::{FILE_RECORDS, Header, Reading};
-use qhs_writer::Wrote;
+use qhs::{FILE_RECORDS, Header, Schedule};
 
 // Takes the fields of the first n records, each into its own slice.
 fn gather(
@@ -23,14 +21,12 @@ fn gather(
     requires { Room n kinds.old processes.old cells.old values.old }
     ensures { fields kinds.new processes.new cells.new values.new ≡ fields_of bytes.now n }
 {
-    let mut k: usize = 0;
-    while k < n {
+    for k in 0..n {
         let r = qhs::record_at(bytes, k);
         kinds[k] = r.kind;
         processes[k] = r.process;
         cells[k] = r.cell as u16;
         values[k] = r.value;
-        k = k + 1;
     }
 }
 
@@ -42,47 +38,46 @@ fn printed(
     cells: &[u16],
     values: &[u32],
     out: &mut [u8],
-) -> Put
+) -> Option<usize>
     ensures { placed result out.new
         ≡ shown (write_of h (fields kinds.now processes.now cells.now values.now) out.old) }
 {
     match qhs_writer::write(h, kinds, processes, cells, values, out) {
-        Wrote::Bytes(end) => Put::End(end),
-        Wrote::Refused(r) => text::put_file_refused(out, 0, r),
+        Ok(end) => Some(end),
+        Err(refusal) => text::put_file_refused(out, 0, refusal),
     }
 }
 
-// Writes n records again, by way of the lent slices.
+// Writes the records again, by way of the lent slices.
 fn run(
     bytes: &[u8],
-    h: Header,
-    n: usize,
+    file: Schedule,
     kinds: &mut [u8],
     processes: &mut [u8],
     cells: &mut [u16],
     values: &mut [u32],
     out: &mut [u8],
-) -> Put
-    requires { Room n kinds.old processes.old cells.old values.old }
-    ensures { placed result out.new ≡ written bytes.now h n out.old }
+) -> Option<usize>
+    requires { Room file.records kinds.old processes.old cells.old values.old }
+    ensures { placed result out.new ≡ written bytes.now file.header file.records out.old }
 {
-    gather(bytes, n, kinds, processes, cells, values);
-    printed(h, kinds, processes, cells, values, out)
+    gather(bytes, file.records, kinds, processes, cells, values);
+    printed(file.header, kinds, processes, cells, values, out)
 }
 
 // Lends room for the fields of the records of the longest file.
-fn schedule(bytes: &[u8], h: Header, n: usize, out: &mut [u8]) -> Put
-    requires { n ≤ most_records }
-    ensures { placed result out.new ≡ written bytes.now h n out.old }
+fn schedule(bytes: &[u8], file: Schedule, out: &mut [u8]) -> Option<usize>
+    requires { file.records ≤ most_records }
+    ensures { placed result out.new ≡ written bytes.now file.header file.records out.old }
 {
+    let n = file.records;
     let mut kinds = [0u8; FILE_RECORDS];
     let mut processes = [0u8; FILE_RECORDS];
     let mut cells = [0u16; FILE_RECORDS];
     let mut values = [0u32; FILE_RECORDS];
     run(
         bytes,
-        h,
-        n,
+        file,
         &mut kinds[..n],
         &mut processes[..n],
         &mut cells[..n],
@@ -92,12 +87,11 @@ fn schedule(bytes: &[u8], h: Header, n: usize, out: &mut [u8]) -> Put
 }
 
 // Writes what the program prints for a file of these bytes.
-pub fn again(bytes: &[u8], out: &mut [u8]) -> Put
+pub fn again(bytes: &[u8], out: &mut [u8]) -> Option<usize>
     ensures { placed result out.new ≡ again_of bytes.now out.old }
 {
-    let is = qhs::read(bytes);
-    match is {
-        Reading::Refused(r) => text::put_file_refused(out, 0, r),
-        Reading::Schedule(h, n) => schedule(bytes, h, n, out),
+    match qhs::read(bytes) {
+        Err(r) => text::put_file_refused(out, 0, r),
+        Ok(file) => schedule(bytes, file, out),
     }
 }

@@ -3,21 +3,16 @@
 
 mod again;
 
-use byte_lists::Put;
 use std::io;
 
 fn main(rt: HostRuntime) -> io::Result<()> {
-    let mut file = [0u8; qhs::INPUT];
-    let mut out = [0u8; qhs::FILE_BYTES];
+    let mut file = [0; qhs::INPUT];
+    let mut out = [0; qhs::FILE_BYTES];
     let n = streams::read_full(&mut rt.reader(), &mut file)?;
-    let put = again::again(&file[..n], &mut out);
-    match put {
-        Put::NoRoom => {}
-        Put::End(end) => {
-            if end <= qhs::FILE_BYTES {
-                rt.write_all(&out[..end])?;
-            }
-        }
+    if let Some(end) = again::again(&file[..n], &mut out)
+        && let Some(bytes) = out.get(..end)
+    {
+        rt.write_all(bytes)?;
     }
     Ok(())
 }

@@ -1,21 +1,16 @@
 // The schedule program: one file from standard input, its output to standard output.
 #![tactic(auto)]
 
-use byte_lists::Put;
 use std::io;
 
 fn main(rt: HostRuntime) -> io::Result<()> {
-    let mut file = [0u8; qhs::INPUT];
-    let mut out = [0u8; play::OUTPUT];
+    let mut file = [0; qhs::INPUT];
+    let mut out = [0; play::OUTPUT];
     let n = streams::read_full(&mut rt.reader(), &mut file)?;
-    let put = play::play(&file[..n], &mut out);
-    match put {
-        Put::NoRoom => {}
-        Put::End(end) => {
-            if end <= play::OUTPUT {
-                rt.write_all(&out[..end])?;
-            }
-        }
+    if let Some(end) = play::play(&file[..n], &mut out)
+        && let Some(bytes) = out.get(..end)
+    {
+        rt.write_all(bytes)?;
     }
     Ok(())
 }

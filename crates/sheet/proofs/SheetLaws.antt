@@ -1,21 +1,21 @@
 -- Each case of the planners' output, as a law of its definition.
 -- Assumes nothing.
+use Rattle.std.specs.Prelude.{Ok, Err, Some}
+use Rattle.qhs.specs.Qhs.{Reading, scheduled}
+use Rattle.planners_text.specs.PlannersText.{Wrote}
 use Prim.Native.Nat.{ℕ}
 use mathlib.Core.Path.{◌≡◌, sym, ap, ◌∙◌}
 use mathlib.Core.List.{List}
 use Rattle.refusals.specs.declared.Refusal.{Refusal}
 use Rattle.qhs.specs.declared.Header.{Header}
-use Rattle.qhs.specs.declared.Reading.{Reading}
 use Rattle.qhs.specs.Qhs.{terms_of, read_of}
 use Rattle.qhs.specs.Laws.{schedule}
 use Rattle.lanes.specs.declared.State.{State}
 use Rattle.steps.specs.Memory.{Memory}
 use Rattle.acts.specs.Worlds.{grid, World, world, opened_world}
-use Rattle.byte_lists.specs.declared.Put.TheVariants as Put
 use Rattle.text.specs.Text.{refused_line, file_refused_line}
 use Rattle.byte_lists.specs.Bytes.{Placed, placed, put_of}
 use Rattle.play.specs.Play.{filled, after}
-use Rattle.planners_text.specs.declared.Wrote.{Wrote}
 use Rattle.planners_text.specs.PlannersText.{page, write_of}
 use Rattle.sheet.specs.Sheet.{shown, shown_of, left, sheet_as, sheet_of}
 use Rattle.sheet.specs.Inner.{Small}
@@ -26,24 +26,24 @@ module _ (bytes : List ℕ) (h : Header) (n : ℕ) (mem mem' : Memory) (s : Stat
   unfolding left
   shown_is = ap shown f ∙ ap (λ (x : World State). shown_of x out) e
 
-  pub left_text : (end : ℕ) → w ≡ Wrote.Bytes end → placed (Put.End end) out' ≡ left bytes h n mem out
+  pub left_text : (end : ℕ) → w ≡ Ok end → placed (Some end) out' ≡ left bytes h n mem out
   left_text end g = ap (λ (x : Wrote). shown (page x out')) (sym g) ∙ shown_is
 
-  pub left_refused : (r : Refusal) (p : Placed) → w ≡ Wrote.Refused r → p ≡ put_of out' 0 (refused_line r) → p ≡ left bytes h n mem out
+  pub left_refused : (r : Refusal) (p : Placed) → w ≡ Err r → p ≡ put_of out' 0 (refused_line r) → p ≡ left bytes h n mem out
   left_refused r p g k = k ∙ ap (λ (x : Wrote). shown (page x out')) (sym g) ∙ shown_is
 
 pub left_filled : (bytes out : List ℕ) (h : Header) (n : ℕ) (mem : Memory) (r : Placed) → mem ≡ filled h → r ≡ left bytes h n mem out
     → r ≡ left bytes h n (filled h) out
 left_filled bytes out h n mem r e f = f ∙ ap (λ (x : Memory). left bytes h n x out) e
 
-pub small : (bytes : List ℕ) (is : Reading) (h : Header) (n : ℕ) → is ≡ read_of bytes → is ≡ Reading.Schedule h n → Small h
+pub small : (bytes : List ℕ) (is : Reading) (h : Header) (n : ℕ) → is ≡ read_of bytes → is ≡ scheduled h n → Small h
 small bytes is h n read e = let s = schedule bytes is h n read e in record { p_high = s.counts.p_high; m_high = s.m_few }
 
 module _ (bytes out : List ℕ) (is : Reading) (read : is ≡ read_of bytes) (r : Placed) where
-  pub sheet_refused : (f : Refusal) → is ≡ Reading.Refused f → r ≡ put_of out 0 (file_refused_line f) → r ≡ sheet_of bytes out
+  pub sheet_refused : (f : Refusal) → is ≡ Err f → r ≡ put_of out 0 (file_refused_line f) → r ≡ sheet_of bytes out
   unfolding sheet_of
   sheet_refused f e g = g ∙ ap (λ (x : Reading). sheet_as bytes out x) (sym e ∙ read)
 
-  pub sheet_schedule : (h : Header) (n : ℕ) → is ≡ Reading.Schedule h n → r ≡ left bytes h n (filled h) out → r ≡ sheet_of bytes out
+  pub sheet_schedule : (h : Header) (n : ℕ) → is ≡ scheduled h n → r ≡ left bytes h n (filled h) out → r ≡ sheet_of bytes out
   unfolding sheet_of
   sheet_schedule h n e g = g ∙ ap (λ (x : Reading). sheet_as bytes out x) (sym e ∙ read)

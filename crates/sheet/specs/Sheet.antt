@@ -1,23 +1,23 @@
 -- The planners' program's output, from the file's bytes: the text of the grid that the file leaves, or why there is none.
 -- Assumes nothing.
+use Rattle.std.specs.Prelude.{Ok, Err, Some}
+use Rattle.qhs.specs.Qhs.{Reading}
+use Rattle.planners_text.specs.PlannersText.{Wrote}
 use Rattle.std.specs.Prelude.{ℕ, List}
 use Rattle.qhs.specs.declared.Header.{Header}
-use Rattle.qhs.specs.declared.Reading.{Reading}
 use Rattle.qhs.specs.Qhs.{terms_of, read_of}
 use Rattle.lanes.specs.declared.State.{State}
 use Rattle.steps.specs.Memory.{Memory}
 use Rattle.acts.specs.Worlds.{grid, World, opened_world}
-use Rattle.byte_lists.specs.declared.Put.TheVariants as Put
 use Rattle.text.specs.Text.{refused_line, file_refused_line}
 use Rattle.byte_lists.specs.Bytes.{Placed, placed, put_of}
 use Rattle.play.specs.Play.{filled, after}
-use Rattle.planners_text.specs.declared.Wrote.{Wrote}
 use Rattle.planners_text.specs.PlannersText.{Page, write_of}
 
 -- The grid's text; where it is refused, `refused R`.
 abbrev pub shown_as : List ℕ → Wrote → Placed
-shown_as out (Wrote.Bytes end) = placed (Put.End end) out
-shown_as out (Wrote.Refused r) = put_of out 0 (refused_line r)
+shown_as out (Ok end) = placed (Some end) out
+shown_as out (Err r) = put_of out 0 (refused_line r)
 
 abbrev pub shown : Page → Placed
 shown p = shown_as p.out p.answer
@@ -31,8 +31,8 @@ left bytes h n mem out = shown_of (after bytes (opened_world grid (terms_of h) m
 
 -- A refused file prints only `file refused R`.
 abbrev pub sheet_as : List ℕ → List ℕ → Reading → Placed
-sheet_as bytes out (Reading.Refused r) = put_of out 0 (file_refused_line r)
-sheet_as bytes out (Reading.Schedule h n) = left bytes h n (filled h) out
+sheet_as bytes out (Err r) = put_of out 0 (file_refused_line r)
+sheet_as bytes out (Ok file) = left bytes file.header file.records (filled file.header) out
 
 unfoldable pub sheet_of : List ℕ → List ℕ → Placed
 sheet_of bytes out = sheet_as bytes out (read_of bytes)

@@ -8,38 +8,35 @@ ghost use Rattle.play.specs.Play.{filled};
 ghost use Rattle.sheet.specs.Sheet.{left, sheet_of};
 ghost use Rattle.sheet.specs.Inner.{Small};
 
-use byte_lists::Put;
 use numbers::Mark;
-use planners_text::Wrote;
 use play::{CELL_WORDS, DIRECTORY_WORDS, POOL_WORDS, ends};
-use qhs::{Header, Reading};
+use qhs::Schedule;
 
-// Plays n records on a grid in the lent memories, and writes its text.
+// Plays a schedule on a grid in the lent memories, and writes its text.
 fn run(
     bytes: &[u8],
-    h: Header,
-    n: usize,
+    file: Schedule,
     readings: &mut [u32],
     links: &mut [u64],
     directory: &mut [u32],
     pool: &mut [Mark],
     out: &mut [u8],
-) -> Put
-    ensures { placed result out.new ≡ left bytes.now h n (memory readings.old links.old directory.old pool.old) out.old }
+) -> Option<usize>
+    ensures { placed result out.new ≡ left bytes.now file.header file.records (memory readings.old links.old directory.old pool.old) out.old }
 {
-    let s = ends::state_after(bytes, h, n, readings, links, directory, pool);
-    let wrote = planners_text::write_text(s, readings, links, directory, pool, out);
-    match wrote {
-        Wrote::Bytes(end) => Put::End(end),
-        Wrote::Refused(r) => text::put_refused(out, 0, r),
+    let s = ends::state_after(bytes, file, readings, links, directory, pool);
+    match planners_text::write_text(s, readings, links, directory, pool, out) {
+        Ok(end) => Some(end),
+        Err(r) => text::put_refused(out, 0, r),
     }
 }
 
-// Plays n records on a grid whose memory holds the fill, and writes its text.
-fn schedule(bytes: &[u8], h: Header, n: usize, out: &mut [u8]) -> Put
-    requires { Small h }
-    ensures { placed result out.new ≡ left bytes.now h n (filled h) out.old }
+// Plays a schedule on a grid whose memory holds the fill, and writes its text.
+fn schedule(bytes: &[u8], file: Schedule, out: &mut [u8]) -> Option<usize>
+    requires { Small file.header }
+    ensures { placed result out.new ≡ left bytes.now file.header file.records (filled file.header) out.old }
 {
+    let h = file.header;
     let fill = h.fill;
     let low = (fill % 4294967296) as u32;
     let mut readings = [low; CELL_WORDS];
@@ -51,8 +48,7 @@ fn schedule(bytes: &[u8], h: Header, n: usize, out: &mut [u8]) -> Put
     let words = numbers::pool_words(h.p, h.m);
     run(
         bytes,
-        h,
-        n,
+        file,
         &mut readings[..cells],
         &mut links[..cells],
         &mut directory[..entries],
@@ -62,12 +58,11 @@ fn schedule(bytes: &[u8], h: Header, n: usize, out: &mut [u8]) -> Put
 }
 
 // Writes what the program prints for a file of these bytes.
-pub fn sheet(bytes: &[u8], out: &mut [u8]) -> Put
+pub fn sheet(bytes: &[u8], out: &mut [u8]) -> Option<usize>
     ensures { placed result out.new ≡ sheet_of bytes.now out.old }
 {
-    let is = qhs::read(bytes);
-    match is {
-        Reading::Refused(r) => text::put_file_refused(out, 0, r),
-        Reading::Schedule(h, n) => schedule(bytes, h, n, out),
+    match qhs::read(bytes) {
+        Err(r) => text::put_file_refused(out, 0, r),
+        Ok(file) => schedule(bytes, file, out),
     }
 }

@@ -2,7 +2,6 @@
 use acts::{Ask, Opening};
 use lanes::State;
 use numbers::{Cell, Mark, Process, Terms};
-use planners_text::Wrote;
 use summary::Summary;
 use test_vectors::show::{Made, Said};
 use test_vectors::words;
@@ -120,11 +119,11 @@ fn text(
 ) -> Made {
     let a = planners_text::write_text(s, readings, links, directory, pool, page);
     match a {
-        Wrote::Bytes(n) => Made {
+        Ok(n) => Made {
             state: s,
             said: Said::Text(n),
         },
-        Wrote::Refused(r) => Made {
+        Err(r) => Made {
             state: s,
             said: Said::Refused(r),
         },

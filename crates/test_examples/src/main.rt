@@ -4,7 +4,6 @@
 mod touch;
 
 use acts::{Answer, Ask, Stepped};
-use byte_lists::Put;
 use lanes::State;
 use numbers::{Cell, Mark, Place, Process, Terms};
 use steps::Word;
@@ -22,7 +21,7 @@ fn say_first(rt: &impl Print, w: &[u8], end: usize) {
 fn number(rt: &impl Print, n: u64) {
     let mut digits = [0u8; 20];
     let put = byte_lists::put_decimal(&mut digits, 0, n);
-    if let Put::End(end) = put {
+    if let Some(end) = put {
         say_first(rt, &digits, end);
     }
 }

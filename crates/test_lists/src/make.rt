@@ -4,7 +4,7 @@ use super::lists::{LAST, LIST};
 use lanes::State;
 use numbers::Mark;
 use qhs::Header;
-use qhs_writer::Wrote;
+use refusals::Refusal;
 use test_vectors::show::{Made, Said};
 use test_vectors::words;
 use test_vectors::words::low32;
@@ -53,10 +53,10 @@ fn header(input: &[u64], base: usize, fill: u64) -> Header {
     }
 }
 
-fn said(w: Wrote) -> Said {
+fn said(w: Result<usize, Refusal>) -> Said {
     match w {
-        Wrote::Bytes(n) => Said::File(n),
-        Wrote::Refused(r) => Said::Refused(r),
+        Ok(n) => Said::File(n),
+        Err(r) => Said::Refused(r),
     }
 }
 

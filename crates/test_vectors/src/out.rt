@@ -1,5 +1,4 @@
 // The output, kept in a buffer and written when it is full.
-use byte_lists::Put;
 
 // Writes the first `at` bytes. A write that fails is not told.
 pub fn flush(rt: &impl Print, out: &[u8], at: usize) {
@@ -9,31 +8,21 @@ pub fn flush(rt: &impl Print, out: &[u8], at: usize) {
 }
 
 pub fn bytes(rt: &impl Print, out: &mut [u8], at: usize, w: &[u8]) -> usize {
-    let put = byte_lists::put_bytes(out, at, w);
-    match put {
-        Put::End(e) => e,
-        Put::NoRoom => {
+    match byte_lists::put_bytes(out, at, w) {
+        Some(e) => e,
+        None => {
             flush(rt, out, at);
-            let again = byte_lists::put_bytes(out, 0, w);
-            match again {
-                Put::End(e) => e,
-                Put::NoRoom => 0,
-            }
+            byte_lists::put_bytes(out, 0, w).unwrap_or(0)
         }
     }
 }
 
 pub fn number(rt: &impl Print, out: &mut [u8], at: usize, n: u64) -> usize {
-    let put = byte_lists::put_decimal(out, at, n);
-    match put {
-        Put::End(e) => e,
-        Put::NoRoom => {
+    match byte_lists::put_decimal(out, at, n) {
+        Some(e) => e,
+        None => {
             flush(rt, out, at);
-            let again = byte_lists::put_decimal(out, 0, n);
-            match again {
-                Put::End(e) => e,
-                Put::NoRoom => 0,
-            }
+            byte_lists::put_decimal(out, 0, n).unwrap_or(0)
         }
     }
 }

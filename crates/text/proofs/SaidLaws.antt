@@ -2,14 +2,16 @@
 -- Assumes nothing.
 use Rattle.std.specs.Prelude.{Ok, Err}
 use Prim.Native.Nat.{ℕ, suc, ◌+◌, ◌^◌, ◌<◌, ◌≤◌}
-use mathlib.Core.Path.{◌≡◌}
+use mathlib.Core.Path.{◌≡◌, refl}
 use mathlib.Core.Bool.{Bool, true, false}
 use mathlib.Core.List.{List, [], ◌++◌}
+use Rattle.std.specs.Int.{from_bool}
 use native.Mathlib.Omega.{arith}
 use lib.ListN.{length, length-append}
 use Rattle.refusals.specs.Numbers.{number_of}
 use Rattle.refusals.specs.declared.Refusal.{Refusal}
 use Rattle.acts.specs.declared.Answer.{Answer}
+use Rattle.acts.specs.Calls.{Response}
 use Rattle.text.specs.Text.{bit, two, three, saying, answer_line, sizes_line, file_refused_line, refused_line}
 use Rattle.byte_lists.specs.Bytes.{word, newline, decimal}
 use Rattle.byte_lists.specs.Decimals.{decimal_short}
@@ -19,36 +21,36 @@ use Rattle.byte_lists.specs.Lines.{Grown, Made}
 use Rattle.byte_lists.proofs.MadeLaws.{made}
 use Rattle.byte_lists.proofs.LineLaws.{then}
 
-pub two_is : (l x y r : Line) (v n : ℕ) → Grown l x (decimal v) → Grown x y (word " ") → Grown y r (decimal n) → Grown l r (two v n)
-two_is l x y r v n e f g = then l x r (decimal v) (word " " ++ decimal n) e (then x y r (word " ") (decimal n) f g)
-
-pub three_is : (l x y r : Line) (v b n : ℕ) → Grown l x (decimal v) → Grown x y (word " ") → Grown y r (two b n) → Grown l r (three v b n)
-three_is l x y r v b n e f g = then l x r (decimal v) (word " " ++ two b n) e (then x y r (word " ") (two b n) f g)
-
 -- how long the numbers of an answer are
 two_length : (j v n : ℕ) → v < 10 ^ suc j → n < 256 → length (two v n) ≤ suc j + 4
 two_length j v n h k =
     simp length-append (omega (arith, decimal_short j v h, decimal_short 2 n (omega arith), length-append (word " ") (decimal n)))
 
+-- the number that a test is cast to
+bit_is : (b : Bool) → from_bool b ≡ bit b
+bit_is true = refl
+bit_is false = refl
+
 small : (b : Bool) → bit b < 10
 small true = omega arith
 small false = omega arith
 
-module _ (l r : Line) (a : Response) where
-  pub said_begun : a ≡ Ok Answer.Begun → Grown l r (word "begun") → Said l r a
-  said_begun e g = rw e (record { grown = g; short = omega arith })
+-- a number, a space and a number
+two_is : (l x y r : Line) (v n : ℕ) → Grown l x (decimal v) → Grown x y (word " ") → Grown y r (decimal n) → Grown l r (two v n)
+two_is l x y r v n e f g = then l x r (decimal v) (word " " ++ decimal n) e (then x y r (word " ") (decimal n) f g)
 
-  pub said_going : a ≡ Ok Answer.Going → Grown l r (word "going") → Said l r a
-  said_going e g = rw e (record { grown = g; short = omega arith })
-
-  pub said_read : (x : Line) (b : Bool) (v w n : ℕ) → v < 4294967296 → w ≡ bit b → n < 256 → a ≡ Ok (Answer.Read v b n) → Grown l x (word "read ")
-      → Grown x r (three v w n)
-      → Said l r a
-  said_read x b v w n h i k e f g =
-      let g' : Grown x r (three v (bit b) n) = rw i at g in
+module _ (l x r : Line) (a : Answer) where
+  pub said_read : (x1 x2 x3 x4 : Line) (b : Bool) (v n : ℕ) → v < 4294967296 → n < 256 → a ≡ Answer.Read v b n → Grown l x (word "read ")
+      → Grown x x1 (decimal v) → Grown x1 x2 (word " ") → Grown x2 x3 (decimal (from_bool b)) → Grown x3 x4 (word " ") → Grown x4 r (decimal n)
+      → Said l r (Ok a)
+  said_read x1 x2 x3 x4 b v n h k e f g1 g2 g3 g4 g5 =
+      let g3' : Grown x2 x3 (decimal (bit b)) = rw bit_is at g3 in
       rw e
       (record {
-        grown = then l x r (word "read ") (three v (bit b) n) f g';
+        grown =
+            then l x r (word "read ") (three v (bit b) n) f
+            (then x x1 r (decimal v) (word " " ++ two (bit b) n) g1
+            (then x1 x2 r (word " ") (two (bit b) n) g2 (two_is x2 x3 x4 r (bit b) n g3' g4 g5)));
         short = omega (
           arith,
           decimal_short 9 v (omega arith),
@@ -59,33 +61,36 @@ module _ (l r : Line) (a : Response) where
         );
       })
 
-  pub said_written : (x : Line) (n : ℕ) → n < 256 → a ≡ Ok (Answer.Written n) → Grown l x (word "written ") → Grown x r (decimal n) → Said l r a
-  said_written x n k e f g =
+  pub said_written : (n : ℕ) → n < 256 → a ≡ Answer.Written n → Grown l x (word "written ") → Grown x r (decimal n) → Said l r (Ok a)
+  said_written n k e f g =
       rw e
       (record {
         grown = then l x r (word "written ") (decimal n) f g;
         short = omega (arith, decimal_short 2 n (omega arith), length-append (word "written ") (decimal n));
       })
 
-  pub said_asked : (x : Line) (b : Bool) (v n : ℕ) → v ≡ bit b → n < 256 → a ≡ Ok (Answer.Asked b n) → Grown l x (word "asked ") → Grown x r (two v n) → Said l r a
-  said_asked x b v n i k e f g =
-      let g' : Grown x r (two (bit b) n) = rw i at g in
+  pub said_asked : (x1 x2 : Line) (b : Bool) (n : ℕ) → n < 256 → a ≡ Answer.Asked b n → Grown l x (word "asked ") → Grown x x1 (decimal (from_bool b))
+      → Grown x1 x2 (word " ") → Grown x2 r (decimal n)
+      → Said l r (Ok a)
+  said_asked x1 x2 b n k e f g1 g2 g3 =
+      let g1' : Grown x x1 (decimal (bit b)) = rw bit_is at g1 in
       rw e
       (record {
-        grown = then l x r (word "asked ") (two (bit b) n) f g';
+        grown = then l x r (word "asked ") (two (bit b) n) f (two_is x x1 x2 r (bit b) n g1' g2 g3);
         short = omega (arith, two_length 0 (bit b) n (small b) k, length-append (word "asked ") (two (bit b) n));
       })
 
-  pub said_refused : (x : Line) (y : Refusal) (n : ℕ) → n ≡ number_of y → n < 4294967296 → a ≡ Err y → Grown l x (word "refused ")
-      → Grown x r (decimal n) → Said l r a
-  said_refused x y n i k e f g =
-      let g' : Grown x r (decimal (number_of y)) = rw i at g in
-      let low : number_of y < 4294967296 = rw i at k in
-      rw e
-      (record {
-        grown = then l x r (word "refused ") (decimal (number_of y)) f g';
-        short = omega (arith, decimal_short 9 (number_of y) (omega arith), length-append (word "refused ") (decimal (number_of y)));
-      })
+-- a refusal's number
+pub told_refused : (l x r : Line) (a : Response) (y : Refusal) (n : ℕ) → n ≡ number_of y → n < 4294967296 → a ≡ Err y → Grown l x (word "refused ")
+    → Grown x r (decimal n) → Said l r a
+told_refused l x r a y n i k e f g =
+    let g' : Grown x r (decimal (number_of y)) = rw i at g in
+    let low : number_of y < 4294967296 = rw i at k in
+    rw e
+    (record {
+      grown = then l x r (word "refused ") (decimal (number_of y)) f g';
+      short = omega (arith, decimal_short 9 (number_of y) (omega arith), length-append (word "refused ") (decimal (number_of y)));
+    })
 
 pub answered : (o x y z r : Line) (k : ℕ) (a : Response) → k < 18446744073709551616 → Made o [] → Grown o x (decimal k) → Grown x y (word " ")
     → Said y z a → Grown z r newline → Answered k a r

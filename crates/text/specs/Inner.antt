@@ -2,7 +2,6 @@
 -- Assumes nothing.
 use Rattle.std.specs.Prelude.{ℕ, ◌+◌, ◌≤◌, length}
 use Rattle.byte_lists.specs.Lines.{Grown, Made}
-use Rattle.acts.specs.declared.Answer.{Answer}
 use Rattle.byte_lists.specs.declared.line.Line.{Line}
 use Rattle.text.specs.Text.{saying, answer_line}
 use Rattle.byte_lists.specs.Bytes.{decimal}

@@ -8,11 +8,11 @@ ghost use Rattle.text.specs.Text.{answer_line, sizes_line, file_refused_line, re
 mod lines;
 
 use acts::Answer;
-use byte_lists::{Put, put_line};
+use byte_lists::put_line;
 use refusals::Refusal;
 
 // The line of record k, which was answered a.
-pub fn put_answer(out: &mut [u8], at: usize, k: usize, a: Answer) -> Put
+pub fn put_answer(out: &mut [u8], at: usize, k: usize, a: Result<Answer, Refusal>) -> Option<usize>
     ensures laid { placed result out.new ≡ put_of out.old at (answer_line k a) }
     ensures short { length (answer_line k a) ≤ length (decimal k) + 23 }
 {
@@ -20,21 +20,21 @@ pub fn put_answer(out: &mut [u8], at: usize, k: usize, a: Answer) -> Put
 }
 
 // The first line of a schedule's output.
-pub fn put_sizes(out: &mut [u8], at: usize, p: u32, m: u32) -> Put
+pub fn put_sizes(out: &mut [u8], at: usize, p: u32, m: u32) -> Option<usize>
     ensures { placed result out.new ≡ put_of out.old at (sizes_line p m) }
 {
     put_line(out, at, lines::sizes(p, m))
 }
 
 // The only line of a refused file's output.
-pub fn put_file_refused(out: &mut [u8], at: usize, r: Refusal) -> Put
+pub fn put_file_refused(out: &mut [u8], at: usize, r: Refusal) -> Option<usize>
     ensures { placed result out.new ≡ put_of out.old at (file_refused_line r) }
 {
     put_line(out, at, lines::file_refused(r))
 }
 
 // The only line of an output where the file's grid gives none.
-pub fn put_refused(out: &mut [u8], at: usize, r: Refusal) -> Put
+pub fn put_refused(out: &mut [u8], at: usize, r: Refusal) -> Option<usize>
     ensures { placed result out.new ≡ put_of out.old at (refused_line r) }
 {
     put_line(out, at, lines::refused(r))

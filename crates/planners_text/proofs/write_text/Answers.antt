@@ -11,8 +11,8 @@ returns-then-not-lengths_fit c = search (write_8)
 pub returns-then-at_work : goal.returns-then-at_work
 returns-then-at_work c = search (write_10)
 
-pub returns-in-Outside : goal.returns-in-Outside
-returns-in-Outside c = search (write_9_word)
+pub returns-in-None : goal.returns-in-None
+returns-in-None c = search (write_9_word)
 
-pub returns-in-Bytes : goal.returns-in-Bytes
-returns-in-Bytes c = search (write_text)
+pub returns-in-Some : goal.returns-in-Some
+returns-in-Some c = search (write_text)

@@ -5,5 +5,5 @@ use Rattle.play.proofs.play.Goals as goal
 pub schedule-requires : goal.schedule-requires
 schedule-requires c = search (play_ready)
 
-pub returns-in-Refused : goal.returns-in-Refused
-returns-in-Refused c = search (play_refused)
+pub returns-in-Err : goal.returns-in-Err
+returns-in-Err c = search (play_refused)

@@ -14,8 +14,8 @@ returns-then-not-marked c = search (unmarked)
 pub returns-then-number_at-l : goal.returns-then-number_at-l
 returns-then-number_at-l c = search (other_version)
 
-pub returns-then-h-gt-FILE_CELLS : goal.returns-then-h-gt-FILE_CELLS
-returns-then-h-gt-FILE_CELLS c = search (many_cells)
+pub returns-then-header-gt-FILE_CELLS : goal.returns-then-header-gt-FILE_CELLS
+returns-then-header-gt-FILE_CELLS c = search (many_cells)
 
 pub returns : goal.returns
 returns c = search (left_to_records)

@@ -1,12 +1,13 @@
 -- `sheet::sheet` meets its contract: what the check does not find alone.
+use Rattle.std.proofs.Common.{refl}
 use Rattle.sheet.proofs.SheetLaws.{small, sheet_refused, sheet_schedule}
 use Rattle.sheet.proofs.sheet.Goals as goal
 
 pub schedule-requires : goal.schedule-requires
-schedule-requires c = search (small)
+schedule-requires c = small _ _ _ _ c.in-Ok.ensures refl
 
-pub returns-in-Refused : goal.returns-in-Refused
-returns-in-Refused c = search (sheet_refused)
+pub returns-in-Err : goal.returns-in-Err
+returns-in-Err c = search (sheet_refused)
 
-pub returns-in-Schedule : goal.returns-in-Schedule
-returns-in-Schedule c = search (sheet_schedule)
+pub returns-in-Ok : goal.returns-in-Ok
+returns-in-Ok c = search (sheet_schedule)

@@ -1,11 +1,7 @@
--- What the loop of `planners_text::cells::put_lines` keeps from turn to turn, and what falls.
-use Prim.Native.Nat.{◌-◌}
+-- What the loop of `planners_text::cells::put_lines` keeps from turn to turn.
 use Rattle.steps.specs.Memory.{memory}
 use Rattle.planners_text.proofs.LaidLaws.{Laying}
 use Rattle.planners_text.proofs.cells.put_lines.Given as goal
 
 abbrev pub invariant-loop-i : goal.invariant-loop-i
 invariant-loop-i l = Laying l.s (memory l.readings l.links l.directory l.pool) l.start l.initial.out l.out l.at l.i
-
-abbrev pub decreases-loop-i : goal.decreases-loop-i
-decreases-loop-i l = l.s.terms.m - l.i

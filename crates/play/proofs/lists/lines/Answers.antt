@@ -9,6 +9,6 @@ loop-i-init c = (omega arith, lines_start _ _ _ _)
 pub loop-i-preserved : goal.loop-i-preserved
 loop-i-preserved c = (
   omega arith,
-  lines_next _ _ _ _ _ _ _ _ _ _ _ _ c.requires c.loop-i-test.true c.loop-i.invariant.1
-      c.answer_of-a.ensures c.put_answer.ensures.laid c.put_answer.ensures.short c.end_of-end.ensures,
+  lines_next _ _ _ _ _ _ _ _ _ _ _ _ c.requires (omega arith) c.loop-i.invariant.1
+      c.answer_of-a.ensures c.put_answer.ensures.laid c.put_answer.ensures.short c.unwrap_or-end.ensures,
 )

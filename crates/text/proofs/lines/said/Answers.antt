@@ -1,5 +1,5 @@
 -- `text::lines::said` meets its contract: what the check does not find alone.
-use Rattle.text.proofs.SaidLaws.{said_read, said_written, said_asked, said_refused}
+use Rattle.text.proofs.SaidLaws.{said_read, said_written, said_asked}
 use Rattle.text.proofs.lines.said.Goals as goal
 
 pub returns-in-Read : goal.returns-in-Read
@@ -10,6 +10,3 @@ returns-in-Written c = search (said_written)
 
 pub returns-in-Asked : goal.returns-in-Asked
 returns-in-Asked c = search (said_asked)
-
-pub returns-in-Refused : goal.returns-in-Refused
-returns-in-Refused c = search (said_refused)
