@@ -1,9 +1,9 @@
 -- The second pass: bytes laid into the buffer one after the other.
 -- Assumes nothing.
-use Rattle.std.specs.Prelude.{Option}
+use Rattle.std.specs.Prelude.{Option, None, Some}
 use Prim.Native.Nat.{ℕ, zero, suc, ◌+◌, ◌-◌, ◌<◌, ◌≤◌}
 use mathlib.Core.Path.{◌≡◌, refl, sym, ap, ◌∙◌}
-use mathlib.Core.Bool.{Bool, true, false}
+use mathlib.Core.Bool.{false}
 use mathlib.Core.List.{List, [], ◌++◌}
 use native.Mathlib.Omega.{arith}
 use lib.ListN.{length, length-append}
@@ -56,21 +56,13 @@ laid_line out oa ob oc od at i v a b c d pa pb pc pd room ea fa eb fb ec fc ed f
     (laid_then oa ob od (word ",") (decimal v ++ crlf) a b d (omega (arith, la.ends)) lb
     (laid_then ob oc od (decimal v) crlf b c d (omega (arith, la.ends, lb.ends)) lc ld))
 
-module _ (out : List ℕ) (at i : ℕ) (q : Quarter) where
+module _ (out : List ℕ) (at i : ℕ) (q : Option Quarter) where
   -- a cell that has no line
-  pub as_outside : q ≡ Quarter.Outside → Laid out at (line_as i q) out at
+  pub as_outside : q ≡ None → Laid out at (line_as i q) out at
   as_outside e = rw e (laid_none out at)
 
-  module _ (v : ℕ) (b : Bool) (e : q ≡ Quarter.Read v b) where
-    pub as_none : b ≡ false → Laid out at (line_as i q) out at
-    as_none h = rw (e, h) (laid_none out at)
-
-    module _ (h : b ≡ true) where
-      pub cell_room : at + length (line_as i q) ≤ length out → at + length (line_of i v) ≤ length out
-      cell_room k = rw (e, h) at k
-
-      pub as_written : (o : List ℕ) (a : ℕ) → Laid out at (line_of i v) o a → Laid out at (line_as i q) o a
-      as_written o a l = rw (e, h) l
+  pub as_none : (r : Quarter) → q ≡ Some r → r.written ≡ false → Laid out at (line_as i q) out at
+  as_none r e h = rw (e, h) (laid_none out at)
 
 -- the cells below i have their lines
 pub record Laying (s : State) (mem : Memory) (start : ℕ) (out₀ out : List ℕ) (at i : ℕ) : Type 0 where
@@ -96,7 +88,7 @@ lines_most : (s : State) (mem : Memory) (i n : ℕ) → i ≤ n → length (line
 lines_most s mem i n h = let e : i + (n - i) ≡ n = omega arith in rw e at (lines_rise s mem i (n - i))
 
 module _ (s : State) (mem : Memory) (start : ℕ) (out₀ out : List ℕ) (at i : ℕ) (g : Laying s mem start out₀ out at i) where
-  module _ (h : i < s.terms.m) (q : Quarter) (e : q ≡ quarter_at s mem i) where
+  module _ (h : i < s.terms.m) (q : Option Quarter) (e : q ≡ quarter_at s mem i) where
     line_is : line_as i q ≡ line_as i (quarter_at s mem i)
     line_is = rw e
 

@@ -1,14 +1,14 @@
 -- The planners' text read back: its records are the heading and the written cells, and their fields the numbers.
 -- Assumes nothing.
-use Rattle.std.specs.Prelude.{ℕ, zero, suc, ◌/◌, ◌%◌, ◌<◌, ◌≤◌, ◌≡◌, refl, Bool, true, false, ◌&&◌, List, [], ◌∷◌, ◌++◌, map, ltb, length}
+use Rattle.std.specs.Prelude.{ℕ, zero, suc, ◌/◌, ◌%◌, ◌<◌, ◌≤◌, ◌≡◌, refl, Bool, true, false, ◌&&◌, List, [], ◌∷◌, ◌++◌, map, ltb, length, Option, None, Some}
 use Rattle.std.proofs.Common.{sym, ap, ◌∙◌, append_assoc, append-nil, arith, ltb-true, ltb-false, le-leb, ne_eqb}
-use Rattle.std.proofs.Math.Option.{Option, some}
 use Rattle.lists.specs.Lists.{gathered}
 use Rattle.lanes.specs.declared.State.{State}
 use Rattle.quiet.specs.declared.Quarter.{Quarter}
 use Rattle.steps.specs.Memory.{Memory}
 use Rattle.byte_lists.specs.Bytes.{word, digit, decimal}
 use Rattle.byte_lists.specs.Decimals.{decimal_low, decimal_step, decimal_long, decimal_read}
+use Rattle.logic.specs.Pick.{pick}
 use Rattle.planners_text.specs.PlannersText.{crlf, header, line_of, line_as, quarter_at, lines_below, text_of}
 use Rattle.planners_text.specs.Rfc4180.{text_data, Record, Reader, reader, plain, next, run, finish, records_in}
 use Rattle.planners_text.specs.Sheet.{Row, row, all, is_digit, is_number, row_in, joined, rows_in, headed, sheet_as}
@@ -96,11 +96,15 @@ run_line i v records =
     ∙ run_append (reader plain [] (decimal i ∷ []) records) (decimal v) crlf
     ∙ ap (λ (r : Reader). run r crlf) (run_plain (decimal v) [] (decimal i ∷ []) records (all_decimal text_data digit_is_text v))
 
-run_as : (i : ℕ) (q : Quarter) (records : List Record)
+run_as : (i : ℕ) (q : Option Quarter) (records : List Record)
     → run (reader plain [] [] records) (line_as i q) ≡ reader plain [] [] (records ++ map fields_at (written_as i q))
-run_as i Quarter.Outside records = rw (append-nil records)
-run_as i (Quarter.Read v true) records = run_line i v records
-run_as i (Quarter.Read v false) records = rw (append-nil records)
+run_as i None records = rw (append-nil records)
+run_as i (Some q) records = by q.written
+  where
+    by : (b : Bool) → run (reader plain [] [] records) (pick b (line_of i q.reading) [])
+        ≡ reader plain [] [] (records ++ map fields_at (pick b (row i q.reading ∷ []) []))
+    by true = run_line i q.reading records
+    by false = rw (append-nil records)
 
 map_append : (xs ys : List Row) → map fields_at (xs ++ ys) ≡ map fields_at xs ++ map fields_at ys
 map_append [] ys = refl
@@ -122,22 +126,22 @@ run_lines s mem (suc n) records =
 
 -- ---- the whole text
 
-records_are : (s : State) (mem : Memory) → records_in (text_of s mem) ≡ some (heading ∷ map fields_at (written_below s mem s.terms.m))
+records_are : (s : State) (mem : Memory) → records_in (text_of s mem) ≡ Some (heading ∷ map fields_at (written_below s mem s.terms.m))
 unfolding records_in text_of
 records_are s mem =
     ap finish
     (run_append (reader plain [] [] []) header (lines_below s mem s.terms.m) ∙ run_lines s mem s.terms.m (heading ∷ []))
 
-row_is : (r : Row) → row_in (fields_at r) ≡ some r
+row_is : (r : Row) → row_in (fields_at r) ≡ Some r
 row_is r = simp (decimal_number r.cell, decimal_number r.reading, decimal_read r.cell, decimal_read r.reading)
 
-rows_are : (rows : List Row) → rows_in (map fields_at rows) ≡ some rows
+rows_are : (rows : List Row) → rows_in (map fields_at rows) ≡ Some rows
 rows_are [] = refl
 rows_are (r ∷ rows) =
     ap (λ (o : Option Row). joined o (rows_in (map fields_at rows))) (row_is r)
-    ∙ ap (λ (o : Option (List Row)). joined (some r) o) (rows_are rows)
+    ∙ ap (λ (o : Option (List Row)). joined (Some r) o) (rows_are rows)
 
-pub read_back : (s : State) (mem : Memory) → sheet_in (text_of s mem) ≡ some (written_cells s mem)
+pub read_back : (s : State) (mem : Memory) → sheet_in (text_of s mem) ≡ Some (written_cells s mem)
 read_back s mem =
     ap sheet_as (records_are s mem)
     ∙ ap (λ (o : Option (List Row)). headed heading o) (rows_are (written_below s mem s.terms.m))

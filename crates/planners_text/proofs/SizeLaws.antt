@@ -1,14 +1,13 @@
 -- The first pass: how long numbers and lines are, and the sum over the cells.
 -- Assumes nothing.
-use Rattle.std.specs.Prelude.{Some, None}
+use Rattle.std.specs.Prelude.{Some, None, Option}
 use Prim.Native.Nat.{ℕ, ◌+◌, ◌*◌, ◌/◌, ◌<◌, ◌≤◌}
 use mathlib.Core.Path.{◌≡◌, refl, sym, ap, ◌∙◌}
-use mathlib.Core.Bool.{Bool, true, false, not}
+use mathlib.Core.Bool.{true, false}
 use mathlib.Core.List.{◌++◌}
 use native.Mathlib.Omega.{arith}
 use native.Mathlib.Numerals.{add-one}
 use lib.ListN.{length, length-append}
-use borrow.Author.Tests.{not-true, not-false}
 use Rattle.lists.specs.Lists.{gathered}
 use Rattle.logic.specs.Below.{below}
 use Rattle.logic.specs.BelowLaws.{below_fails, below_more}
@@ -16,7 +15,7 @@ use Rattle.lanes.specs.declared.State.{State}
 use Rattle.quiet.specs.declared.Quarter.{Quarter}
 use Rattle.steps.specs.Memory.{Memory}
 use Rattle.byte_lists.specs.Bytes.{word, decimal}
-use Rattle.byte_lists.specs.Decimals.{decimal_low, decimal_short, decimal_long, step_length}
+use Rattle.byte_lists.specs.Decimals.{decimal_low, decimal_short, step_length}
 use Rattle.planners_text.specs.PlannersText.{crlf, header, line_of, line_as, quarter_at, lines_below, text_of, inside, words_fit}
 use Rattle.planners_text.specs.Inner.{Long, measured_of}
 
@@ -39,10 +38,10 @@ line_length i v =
       length-append (decimal v) crlf,
     )
 
-pub long_written : (i : ℕ) (q : Quarter) (v x y : ℕ) (b : Bool) → q ≡ Quarter.Read v b → b ≡ true → Long 10 (decimal i) x → Long 10 (decimal v) y
-    → Long 23 (line_as i q) (x + y + 3)
-long_written i q v x y b e h k l =
-    rw (e, h) (record { is = omega (arith, line_length i v, k.is, l.is); few = omega (arith, k.few, l.few) })
+pub long_written : (i : ℕ) (q : Quarter) (x y : ℕ) → q.written ≡ true → Long 10 (decimal i) x → Long 10 (decimal q.reading) y
+    → Long 23 (line_as i (Some q)) (x + y + 3)
+long_written i q x y h k l =
+    rw h (record { is = omega (arith, line_length i q.reading, k.is, l.is); few = omega (arith, k.few, l.few) })
 
 -- the cells below i were looked at
 pub record Measuring (s : State) (mem : Memory) (total i : ℕ) : Type 0 where
@@ -61,17 +60,17 @@ unfolding lines_below gathered
 lines_more s mem i = rw (add-one i)
 
 module _ (s : State) (mem : Memory) (total i : ℕ) (g : Measuring s mem total i) where
-  module _ (h : i < s.terms.m) (q : Quarter) (e : q ≡ quarter_at s mem i) (b : Bool) (k : b ≡ inside q) where
-    pub measuring_outside : not b ≡ true → None ≡ measured_of s mem
+  module _ (h : i < s.terms.m) (q : Option Quarter) (e : q ≡ quarter_at s mem i) where
+    pub measuring_outside : q ≡ None → None ≡ measured_of s mem
     measuring_outside x =
-        let out : inside (quarter_at s mem i) ≡ false = ap inside (sym e) ∙ sym k ∙ not-true b x in
+        let out : inside (quarter_at s mem i) ≡ false = ap inside (sym e ∙ x) in
         let none : words_fit s mem ≡ false = below_fails s.terms.m i (λ (j : ℕ). inside (quarter_at s mem j)) h out in
         rw none
 
-    pub measuring_next : not b ≡ false → (n : ℕ) → Long 23 (line_as i q) n → Measuring s mem (total + n) (i + 1)
-    measuring_next x n long =
-        let here : inside (quarter_at s mem i) ≡ true = ap inside (sym e) ∙ sym k ∙ not-false b x in
-        let line : line_as i q ≡ line_as i (quarter_at s mem i) = rw e in
+    pub measuring_next : (r : Quarter) → q ≡ Some r → (n : ℕ) → Long 23 (line_as i (Some r)) n → Measuring s mem (total + n) (i + 1)
+    measuring_next r x n long =
+        let here : inside (quarter_at s mem i) ≡ true = ap inside (sym e ∙ x) in
+        let line : line_as i (Some r) ≡ line_as i (quarter_at s mem i) = ap (line_as i) (sym x ∙ e) in
         let size : n ≡ length (line_as i (quarter_at s mem i)) = long.is ∙ ap length line in
         let more : length (lines_below s mem (i + 1)) ≡ length (lines_below s mem i) + length (line_as i (quarter_at s mem i)) =
         ap length (lines_more s mem i) ∙ length-append (lines_below s mem i) (line_as i (quarter_at s mem i)) in

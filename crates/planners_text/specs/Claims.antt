@@ -1,9 +1,7 @@
 -- What is claimed of the planners' text. Definitions only: `ReadBack` and `Outcomes` have the proofs.
 -- Assumes nothing.
-use Rattle.std.specs.Prelude.{Ok, Err}
+use Rattle.std.specs.Prelude.{ℕ, ◌≡◌, List, length, take, drop, Some, Ok, Err}
 use Rattle.planners_text.specs.PlannersText.{Wrote}
-use Rattle.std.specs.Prelude.{ℕ, ◌≡◌, List, length, take, drop}
-use Rattle.std.proofs.Math.Option.{some}
 use Rattle.refusals.specs.declared.Refusal.{Refusal}
 use Rattle.lanes.specs.declared.State.{State}
 use Rattle.steps.specs.Memory.{Memory}
@@ -20,7 +18,7 @@ OneText =
 abbrev pub ReadsBack : Type 0
 ReadsBack =
     (s : State) (mem : Memory) (out : List ℕ) (n : ℕ) (o : List ℕ) → page (Ok n) o ≡ write_of s mem out
-    → sheet_in (take n o) ≡ some (written_cells s mem)
+    → sheet_in (take n o) ≡ Some (written_cells s mem)
 
 -- Bytes after the text stay.
 abbrev pub BytesAfterStay : Type 0

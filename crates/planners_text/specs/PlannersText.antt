@@ -1,7 +1,6 @@
 -- A grid written out as RFC 4180 text into a lent buffer: document 02, W1.
 -- Assumes nothing.
-use Rattle.std.specs.Prelude.{Result, Ok, Err}
-use Rattle.std.specs.Prelude.{ℕ, Bool, true, false, not, List, [], ◌∷◌, ◌++◌, ltb, length}
+use Rattle.std.specs.Prelude.{ℕ, Bool, true, false, not, List, [], ◌∷◌, ◌++◌, ltb, length, Option, None, Some, Result, Ok, Err}
 use Rattle.lists.specs.Lists.{gathered}
 use Rattle.logic.specs.Below.{below}
 use Rattle.refusals.specs.Orders.{Rule, ◌gives◌, orders}
@@ -28,11 +27,11 @@ abbrev pub line_of : ℕ → ℕ → List ℕ
 line_of i v = decimal i ++ (word "," ++ (decimal v ++ crlf))
 
 -- Only a written cell has a line: the read of the cell says whether it is, and has the reading.
-abbrev pub line_as : ℕ → Quarter → List ℕ
-line_as i Quarter.Outside = []
-line_as i (Quarter.Read v b) = pick b (line_of i v) []
+abbrev pub line_as : ℕ → Option Quarter → List ℕ
+line_as i None = []
+line_as i (Some q) = pick q.written (line_of i q.reading) []
 
-abbrev pub quarter_at : State → Memory → ℕ → Quarter
+abbrev pub quarter_at : State → Memory → ℕ → Option Quarter
 quarter_at s mem i = reading_at s (cell_at s.terms i) mem
 
 -- The lines of the cells below n, in rising order.
@@ -43,9 +42,9 @@ unfoldable pub text_of : State → Memory → List ℕ
 text_of s mem = header ++ lines_below s mem s.terms.m
 
 -- 9 (word): a word of some cell's check lies outside its memory.
-abbrev pub inside : Quarter → Bool
-inside Quarter.Outside = false
-inside (Quarter.Read v b) = true
+abbrev pub inside : Option Quarter → Bool
+inside None = false
+inside (Some q) = true
 
 abbrev pub words_fit : State → Memory → Bool
 words_fit s mem = below s.terms.m (λ (i : ℕ). inside (quarter_at s mem i))

@@ -1,7 +1,6 @@
 -- Reading text by RFC 4180, section 2, for any text: its records, and the bytes of each record's fields.
 -- Assumes nothing.
-use Rattle.std.specs.Prelude.{ℕ, Bool, not, ◌&&◌, ◌||◌, List, [], ◌∷◌, ◌++◌, leb, eqb}
-use Rattle.std.proofs.Math.Option.{Option, none, some}
+use Rattle.std.specs.Prelude.{ℕ, Bool, not, ◌&&◌, ◌||◌, List, [], ◌∷◌, ◌++◌, leb, eqb, Option, None, Some}
 use Rattle.logic.specs.Pick.{pick}
 
 -- COMMA, CR, DQUOTE, LF of the RFC's grammar.
@@ -93,11 +92,11 @@ last r [] (b ∷ field) = r.records ++ (fields_of r ∷ [])
 last r (f ∷ fields) field = r.records ++ (fields_of r ∷ [])
 
 abbrev pub ended : Place → Reader → Option (List Record)
-ended plain r = some (last r r.fields r.field)
-ended quoted r = none
-ended closing r = some (r.records ++ (fields_of r ∷ []))
-ended breaking r = none
-ended broken r = none
+ended plain r = Some (last r r.fields r.field)
+ended quoted r = None
+ended closing r = Some (r.records ++ (fields_of r ∷ []))
+ended breaking r = None
+ended broken r = None
 
 abbrev pub finish : Reader → Option (List Record)
 finish r = ended r.place r

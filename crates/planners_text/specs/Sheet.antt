@@ -1,7 +1,6 @@
 -- A sheet read from text: a heading, and rows of a cell's number and its reading. What the planners' text is to give back.
 -- Assumes nothing.
-use Rattle.std.specs.Prelude.{ℕ, Bool, true, false, ◌&&◌, List, [], ◌∷◌, leb}
-use Rattle.std.proofs.Math.Option.{Option, none, some}
+use Rattle.std.specs.Prelude.{ℕ, Bool, true, false, ◌&&◌, List, [], ◌∷◌, leb, Option, None, Some}
 use Rattle.lists.specs.Lists.{gathered}
 use Rattle.logic.specs.Pick.{pick}
 use Rattle.lanes.specs.declared.State.{State}
@@ -40,37 +39,37 @@ is_number (b ∷ bytes) = all is_digit (b ∷ bytes)
 
 -- A row is a record of two numbers.
 abbrev pub row_in : Record → Option Row
-row_in [] = none
-row_in (i ∷ []) = none
-row_in (i ∷ (v ∷ [])) = pick (is_number i && is_number v) (some (row (read_onto 0 i) (read_onto 0 v))) none
-row_in (i ∷ (v ∷ (w ∷ fields))) = none
+row_in [] = None
+row_in (i ∷ []) = None
+row_in (i ∷ (v ∷ [])) = pick (is_number i && is_number v) (Some (row (read_onto 0 i) (read_onto 0 v))) None
+row_in (i ∷ (v ∷ (w ∷ fields))) = None
 
 abbrev pub joined : Option Row → Option (List Row) → Option (List Row)
-joined none rows = none
-joined (some r) none = none
-joined (some r) (some rows) = some (r ∷ rows)
+joined None rows = None
+joined (Some r) None = None
+joined (Some r) (Some rows) = Some (r ∷ rows)
 
 abbrev pub rows_in : List Record → Option (List Row)
-rows_in [] = some []
+rows_in [] = Some []
 rows_in (r ∷ records) = joined (row_in r) (rows_in records)
 
 abbrev pub headed : Record → Option (List Row) → Option Sheet
-headed heading none = none
-headed heading (some rows) = some (sheet heading rows)
+headed heading None = None
+headed heading (Some rows) = Some (sheet heading rows)
 
 -- The first record is the heading (3), every other a row.
 abbrev pub sheet_as : Option (List Record) → Option Sheet
-sheet_as none = none
-sheet_as (some []) = none
-sheet_as (some (heading ∷ records)) = headed heading (rows_in records)
+sheet_as None = None
+sheet_as (Some []) = None
+sheet_as (Some (heading ∷ records)) = headed heading (rows_in records)
 
 abbrev pub sheet_in : List ℕ → Option Sheet
 sheet_in text = sheet_as (records_in text)
 
 -- The written cells below n with their readings, in rising order.
-abbrev pub written_as : ℕ → Quarter → List Row
-written_as i Quarter.Outside = []
-written_as i (Quarter.Read v b) = pick b (row i v ∷ []) []
+abbrev pub written_as : ℕ → Option Quarter → List Row
+written_as i None = []
+written_as i (Some q) = pick q.written (row i q.reading ∷ []) []
 
 unfoldable pub written_below : State → Memory → ℕ → List Row
 written_below s mem n = gathered n (λ (i : ℕ). written_as i (quarter_at s mem i))

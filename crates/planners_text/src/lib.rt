@@ -2,61 +2,46 @@
 #![tactic(auto)]
 
 ghost use Rattle.std.specs.Prelude.{◌≡◌, length};
-ghost use Rattle.steps.specs.Memory.{memory};
+ghost use Rattle.steps.specs.Memory.{words};
 ghost use Rattle.planners_text.specs.PlannersText.{text_of, page, put_text, write_of};
 
 mod cells;
 
 use acts::opens;
 use lanes::State;
-use numbers::Mark;
 use refusals::Refusal;
+use steps::Lent;
 
 // Writes the text, which has n bytes, where there is room for all of it; how many bytes were written.
-fn put_text(
-    s: State,
-    readings: &[u32],
-    links: &[u64],
-    directory: &[u32],
-    pool: &[Mark],
-    n: usize,
-    out: &mut [u8],
-) -> Result<usize, Refusal>
-    requires { n ≡ length (text_of s (memory readings.now links.now directory.now pool.now)) }
-    ensures { page result out.new ≡ put_text s (memory readings.now links.now directory.now pool.now) out.old }
+fn put_text(s: State, lent: Lent<'_>, n: usize, out: &mut [u8]) -> Result<usize, Refusal>
+    requires { n ≡ length (text_of s (words lent)) }
+    ensures { page result out.new ≡ put_text s (words lent.entry) out.old }
 {
     if out.len() < n {
         return Err(Refusal::NoRoom);
     }
     let start = byte_lists::put_bytes(out, 0, b"quarter,load\r\n").unwrap_or(0);
-    let end = cells::put_lines(s, readings, links, directory, pool, start, out);
+    let end = cells::put_lines(s, lent, start, out);
     Ok(end)
 }
 
 // Writes the written cells of a grid with their readings, a line each, below a header. The first pass looks at every cell, so
 // that a refusal writes nothing. The state and the memories are only read.
-pub fn write_text(
-    s: State,
-    readings: &[u32],
-    links: &[u64],
-    directory: &[u32],
-    pool: &[Mark],
-    out: &mut [u8],
-) -> Result<usize, Refusal>
-    ensures { page result out.new ≡ write_of s (memory readings.now links.now directory.now pool.now) out.old }
+pub fn write_text(s: State, lent: Lent<'_>, out: &mut [u8]) -> Result<usize, Refusal>
+    ensures { page result out.new ≡ write_of s (words lent.entry) out.old }
 {
     let shown = quiet::scan_of(s);
-    if quiet::unfit(shown) {
+    if shown.is_unfit() {
         return Err(Refusal::OutOfRange);
     }
-    if !opens::lengths_fit(s.terms, readings, links, directory, pool) {
+    if !opens::lengths_fit(s.terms, lent) {
         return Err(Refusal::OtherLengths);
     }
-    if quiet::at_work(shown) {
+    if shown.is_at_work() {
         return Err(Refusal::AtWork);
     }
-    match cells::measure(s, readings, links, directory, pool) {
+    match cells::measure(s, lent) {
         None => Err(Refusal::OutOfRange),
-        Some(n) => put_text(s, readings, links, directory, pool, n, out),
+        Some(n) => put_text(s, lent, n, out),
     }
 }

@@ -8,7 +8,6 @@ use native.Mathlib.Omega.{arith}
 use native.Mathlib.Numerals.{add-one}
 use lib.ListN.{length, get_or, length-append}
 use Rattle.lanes.specs.declared.State.{State}
-use Rattle.acts.specs.declared.Answer.{Answer}
 use Rattle.batch.specs.Batch.{answer_of}
 use Rattle.acts.specs.Worlds.{World}
 use Rattle.text.specs.Text.{answer_line}

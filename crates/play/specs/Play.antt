@@ -1,8 +1,7 @@
 -- The schedule program's output, from the file's bytes: "Schedule file and its program" of document 01.
 -- Assumes nothing.
-use Rattle.std.specs.Prelude.{Ok, Err, Some, None}
+use Rattle.std.specs.Prelude.{ℕ, zero, suc, ◌+◌, ◌*◌, ◌%◌, List, [], ◌∷◌, ◌++◌, leb, eqb, length, replicate, None, Some, Ok, Err}
 use Rattle.qhs.specs.Qhs.{Reading}
-use Rattle.std.specs.Prelude.{ℕ, zero, suc, ◌+◌, ◌*◌, ◌%◌, List, [], ◌∷◌, ◌++◌, leb, eqb, length, replicate}
 use Rattle.numbers.specs.Numbers.{most_processes, directory_words, pool_words}
 use Rattle.numbers.specs.declared.Cell.{Cell}
 use Rattle.numbers.specs.declared.Terms.{Terms}

@@ -2,7 +2,7 @@
 #![tactic(auto)]
 
 ghost use Rattle.std.specs.Prelude.{◌≡◌};
-ghost use Rattle.steps.specs.Memory.{memory};
+ghost use Rattle.steps.specs.Memory.{words_mut};
 ghost use Rattle.byte_lists.specs.Bytes.{placed};
 ghost use Rattle.play.specs.Play.{filled, schedule_text, put, play_of};
 ghost use Rattle.play.specs.Inner.{Ready};
@@ -10,8 +10,9 @@ ghost use Rattle.play.specs.Inner.{Ready};
 pub mod ends;
 mod lists;
 
-use numbers::{CELL_MARKS, LANES, Mark, PROCESS_MARKS, SEGMENTS};
+use numbers::{CELL_MARKS, LANES, PROCESS_MARKS, SEGMENTS};
 use qhs::{FILE_CELLS, FILE_RECORDS, Schedule};
+use steps::LentMut;
 
 // A line's length at the most, and the room that the longest output takes: a line for the sizes, and one for each record.
 const LINE: usize = 27;
@@ -26,29 +27,21 @@ pub const DIRECTORY_WORDS: usize = (SEGMENTS as usize) * LANES;
 pub const POOL_WORDS: usize = CELL_MARKS * CELL_WORDS + PROCESS_MARKS * LANES;
 
 // Plays a schedule on a grid in the lent memories.
-fn run(
-    bytes: &[u8],
-    file: Schedule,
-    readings: &mut [u32],
-    links: &mut [u64],
-    directory: &mut [u32],
-    pool: &mut [Mark],
-    out: &mut [u8],
-) -> Option<usize>
+fn run(bytes: &[u8], file: Schedule, lent: &mut LentMut<'_>, out: &mut [u8]) -> Option<usize>
     requires { Ready file.header file.records out.old }
     ensures { placed result out.new
-        ≡ put out.old (schedule_text bytes.now file.header file.records (memory readings.old links.old directory.old pool.old)) }
+        ≡ put out.old (schedule_text bytes.now file.header file.records (words_mut lent.old)) }
 {
     let h = file.header;
     let n = file.records;
-    let o = grid::open(qhs::terms_of(h), readings, links, directory, pool);
+    let o = grid::open(qhs::terms_of(h), lent.as_ref());
     let mut s = o.state;
     let mut at = text::put_sizes(out, 0, h.p, h.m).unwrap_or(0);
     let mut words = [0; lists::LIST];
     let mut k = 0;
     while k < n {
         let c = lists::count(n - k);
-        s = lists::played(bytes, k, c, s, &mut words, readings, links, directory, pool);
+        s = lists::played(bytes, k, c, s, &mut words, lent);
         at = lists::lines(k, c, &words, at, out);
         k += c;
     }
@@ -68,18 +61,13 @@ fn schedule(bytes: &[u8], file: Schedule, out: &mut [u8]) -> Option<usize>
     let mut links = [fill; CELL_WORDS];
     let mut directory = [low; DIRECTORY_WORDS];
     let mut pool = [low; POOL_WORDS];
-    let cells = h.m as usize;
-    let entries = numbers::directory_words(h.p);
-    let words = numbers::pool_words(h.p, h.m);
-    run(
-        bytes,
-        file,
-        &mut readings[..cells],
-        &mut links[..cells],
-        &mut directory[..entries],
-        &mut pool[..words],
-        out,
-    )
+    let mut lent = LentMut {
+        readings: &mut readings[..h.m as usize],
+        links: &mut links[..h.m as usize],
+        directory: &mut directory[..numbers::directory_words(h.p)],
+        pool: &mut pool[..numbers::pool_words(h.p, h.m)],
+    };
+    run(bytes, file, &mut lent, out)
 }
 
 // Writes what the program prints for a file of these bytes; where it ends, or None where the buffer is too short for any.

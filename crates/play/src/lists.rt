@@ -1,12 +1,12 @@
 // Records in short lists: each list is one call of the batch, and its answers are told by words.
 ghost use Rattle.std.specs.Prelude.{◌≡◌};
-ghost use Rattle.steps.specs.Memory.{memory};
+ghost use Rattle.steps.specs.Memory.{words_mut, SameLent};
 ghost use Rattle.acts.specs.Worlds.{world};
 ghost use Rattle.play.specs.Inner.{kind_of, count_of, word_lines, Short, Room, Played, Shown};
 
 use lanes::State;
-use numbers::Mark;
 use qhs::{LAST_KIND, Record};
+use steps::LentMut;
 
 // The records of a list at the most: its words and its fields are on the stack.
 pub const LIST: usize = 32;
@@ -32,14 +32,12 @@ pub fn played(
     c: usize,
     s: State,
     words: &mut [u64],
-    readings: &mut [u32],
-    links: &mut [u64],
-    directory: &mut [u32],
-    pool: &mut [Mark],
+    lent: &mut LentMut<'_>,
 ) -> State
     requires { Short first c words.old }
-    ensures { Played bytes.now first c (world s (memory readings.old links.old directory.old pool.old))
-        (world result (memory readings.new links.new directory.new pool.new)) words.new }
+    ensures same { SameLent lent.old lent.new }
+    ensures done { Played bytes.now first c (world s (words_mut lent.old))
+        (world result (words_mut lent.new)) words.new }
 {
     let mut kinds = [0u8; LIST];
     let mut processes = [0u32; LIST];
@@ -52,18 +50,7 @@ pub fn played(
         cells[i] = d.cell;
         values[i] = d.value;
     }
-    batch::run(
-        s,
-        &kinds[..c],
-        &processes,
-        &cells,
-        &values,
-        words,
-        readings,
-        links,
-        directory,
-        pool,
-    )
+    batch::run(s, &kinds[..c], &processes, &cells, &values, words, lent)
 }
 
 // Writes the lines of the c records from record `first` on, whose answers the words tell; where they end.

@@ -1,8 +1,7 @@
 -- What the programs print is what runs of the grid answer: the statements.
 -- Assumes nothing.
-use Rattle.std.specs.Prelude.{Some}
+use Rattle.std.specs.Prelude.{ℕ, ◌≤◌, ◌≡◌, ◌≢◌, List, ◌++◌, length, Some, Err}
 use Rattle.qhs.specs.Qhs.{scheduled}
-use Rattle.std.specs.Prelude.{ℕ, ◌≤◌, ◌≡◌, ◌≢◌, List, ◌++◌, length, Err}
 use Rattle.lists.specs.Lists.{gathered}
 use Rattle.refusals.specs.Numbers.{number_of}
 use Rattle.refusals.specs.Orders.{orders}

@@ -1,9 +1,8 @@
 -- What the reader accepts is written again as the same bytes, ignored fields put to zero.
 -- Assumes nothing.
-use Rattle.std.specs.Prelude.{Ok}
+use Rattle.std.specs.Prelude.{◌≡◌, true, ◌&&◌, List, [], ◌∷◌, ◌++◌, eqb, length, get_or, Ok}
 use Rattle.qhs.specs.Qhs.{scheduled}
 use Prim.Native.Nat.{ℕ, zero, suc, ◌+◌, ◌<◌, ◌≤◌}
-use Rattle.std.specs.Prelude.{◌≡◌, true, ◌&&◌, List, [], ◌∷◌, ◌++◌, eqb, length, get_or}
 use Rattle.std.proofs.Math.Path.{refl, ap}
 use Rattle.std.proofs.Common.{sym, ◌∙◌, ⊎_elim, not-suc-le-zero, eq-or-lt_of_le, arith, length-append, eqb-true, le-leb, lt-ltb, le-ltb}
 use Rattle.std.proofs.Math.ListN.{get_or-append}

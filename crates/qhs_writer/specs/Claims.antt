@@ -1,9 +1,8 @@
 -- What is claimed of the schedule file's writer. Definitions only: `Outcomes`, `WrittenRead` and `ReadWritten` have the proofs.
 -- Assumes nothing.
-use Rattle.std.specs.Prelude.{Ok, Err}
+use Rattle.std.specs.Prelude.{ℕ, ◌^◌, ◌<◌, ◌≤◌, ◌≡◌, List, length, get_or, take, drop, Ok, Err}
 use Rattle.qhs.specs.Qhs.{scheduled}
 use Rattle.qhs_writer.specs.Writer.{Wrote}
-use Rattle.std.specs.Prelude.{ℕ, ◌^◌, ◌<◌, ◌≤◌, ◌≡◌, List, length, get_or, take, drop}
 use Rattle.refusals.specs.declared.Refusal.{Refusal}
 use Rattle.qhs.specs.declared.Header.{Header}
 use Rattle.qhs.specs.Qhs.{most_records, record_at, read_of}

@@ -1,7 +1,6 @@
 -- The schedule file's writer, version 1: a header and records as bytes in a lent buffer: document 02, W2.
 -- Assumes nothing.
-use Rattle.std.specs.Prelude.{Result, Ok, Err}
-use Rattle.std.specs.Prelude.{ℕ, zero, suc, min, Bool, not, List, [], ◌∷◌, ◌++◌, leb, ltb, eqb, length, get_or}
+use Rattle.std.specs.Prelude.{ℕ, zero, suc, min, Bool, not, List, [], ◌∷◌, ◌++◌, leb, ltb, eqb, length, get_or, Result, Ok, Err}
 use Rattle.byte_lists.specs.Bytes.{bytes_of}
 use Rattle.logic.specs.Below.{below}
 use Rattle.refusals.specs.Orders.{Rule, ◌gives◌, orders}

@@ -1,10 +1,9 @@
 -- Each case of a look at a grid at rest, as a law of its definition.
 -- Assumes nothing.
-use Rattle.std.specs.Prelude.{Option, Some}
+use Rattle.std.specs.Prelude.{length, take, Option, Some}
 use mathlib.Core.Path.{◌≡◌, refl, ap, ◌∙◌}
 use mathlib.Core.List.{List}
 use Prim.Native.Nat.{ℕ, zero, suc, ◌≤◌}
-use Rattle.std.specs.Prelude.{length, take}
 use Rattle.std.specs.List.{list_all}
 use Rattle.std.proofs.Common.{add-one}
 use Rattle.std.proofs.lemmas.List.Folds.{list_all_more}

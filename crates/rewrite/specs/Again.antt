@@ -1,9 +1,8 @@
 -- The rewriting program's output, from the file's bytes: the file as the writer writes it, or why there is none.
 -- Assumes nothing.
-use Rattle.std.specs.Prelude.{Ok, Err, Some}
+use Rattle.std.specs.Prelude.{ℕ, List, Some, Ok, Err}
 use Rattle.qhs.specs.Qhs.{Reading}
 use Rattle.qhs_writer.specs.Writer.{Wrote}
-use Rattle.std.specs.Prelude.{ℕ, List}
 use Rattle.qhs.specs.declared.Header.{Header}
 use Rattle.qhs.specs.Qhs.{read_of}
 use Rattle.text.specs.Text.{file_refused_line}

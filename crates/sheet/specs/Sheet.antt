@@ -1,9 +1,8 @@
 -- The planners' program's output, from the file's bytes: the text of the grid that the file leaves, or why there is none.
 -- Assumes nothing.
-use Rattle.std.specs.Prelude.{Ok, Err, Some}
+use Rattle.std.specs.Prelude.{ℕ, List, Some, Ok, Err}
 use Rattle.qhs.specs.Qhs.{Reading}
 use Rattle.planners_text.specs.PlannersText.{Wrote}
-use Rattle.std.specs.Prelude.{ℕ, List}
 use Rattle.qhs.specs.declared.Header.{Header}
 use Rattle.qhs.specs.Qhs.{terms_of, read_of}
 use Rattle.lanes.specs.declared.State.{State}

@@ -2,30 +2,27 @@
 #![tactic(auto)]
 
 ghost use Rattle.std.specs.Prelude.{◌≡◌};
-ghost use Rattle.steps.specs.Memory.{memory};
+ghost use Rattle.steps.specs.Memory.{words_mut};
 ghost use Rattle.byte_lists.specs.Bytes.{placed};
 ghost use Rattle.play.specs.Play.{filled};
 ghost use Rattle.sheet.specs.Sheet.{left, sheet_of};
 ghost use Rattle.sheet.specs.Inner.{Small};
 
-use numbers::Mark;
 use play::{CELL_WORDS, DIRECTORY_WORDS, POOL_WORDS, ends};
 use qhs::Schedule;
+use steps::LentMut;
 
 // Plays a schedule on a grid in the lent memories, and writes its text.
 fn run(
     bytes: &[u8],
     file: Schedule,
-    readings: &mut [u32],
-    links: &mut [u64],
-    directory: &mut [u32],
-    pool: &mut [Mark],
+    lent: &mut LentMut<'_>,
     out: &mut [u8],
 ) -> Option<usize>
-    ensures { placed result out.new ≡ left bytes.now file.header file.records (memory readings.old links.old directory.old pool.old) out.old }
+    ensures { placed result out.new ≡ left bytes.now file.header file.records (words_mut lent.old) out.old }
 {
-    let s = ends::state_after(bytes, file, readings, links, directory, pool);
-    match planners_text::write_text(s, readings, links, directory, pool, out) {
+    let s = ends::state_after(bytes, file, lent);
+    match planners_text::write_text(s, lent.as_ref(), out) {
         Ok(end) => Some(end),
         Err(r) => text::put_refused(out, 0, r),
     }
@@ -43,18 +40,13 @@ fn schedule(bytes: &[u8], file: Schedule, out: &mut [u8]) -> Option<usize>
     let mut links = [fill; CELL_WORDS];
     let mut directory = [low; DIRECTORY_WORDS];
     let mut pool = [low; POOL_WORDS];
-    let cells = h.m as usize;
-    let entries = numbers::directory_words(h.p);
-    let words = numbers::pool_words(h.p, h.m);
-    run(
-        bytes,
-        file,
-        &mut readings[..cells],
-        &mut links[..cells],
-        &mut directory[..entries],
-        &mut pool[..words],
-        out,
-    )
+    let mut lent = LentMut {
+        readings: &mut readings[..h.m as usize],
+        links: &mut links[..h.m as usize],
+        directory: &mut directory[..numbers::directory_words(h.p)],
+        pool: &mut pool[..numbers::pool_words(h.p, h.m)],
+    };
+    run(bytes, file, &mut lent, out)
 }
 
 // Writes what the program prints for a file of these bytes.

@@ -2,14 +2,14 @@
 use Rattle.planners_text.proofs.WriteLaws.{write_9, write_8, write_10, write_9_word, write_text}
 use Rattle.planners_text.proofs.write_text.Goals as goal
 
-pub returns-then-unfit : goal.returns-then-unfit
-returns-then-unfit c = search (write_9)
+pub returns-then-is_unfit : goal.returns-then-is_unfit
+returns-then-is_unfit c = search (write_9)
 
 pub returns-then-not-lengths_fit : goal.returns-then-not-lengths_fit
 returns-then-not-lengths_fit c = search (write_8)
 
-pub returns-then-at_work : goal.returns-then-at_work
-returns-then-at_work c = search (write_10)
+pub returns-then-is_at_work : goal.returns-then-is_at_work
+returns-then-is_at_work c = search (write_10)
 
 pub returns-in-None : goal.returns-in-None
 returns-in-None c = search (write_9_word)

@@ -2,7 +2,7 @@
 use Prim.Native.Nat.{◌-◌}
 use mathlib.Core.Path.{◌≡◌}
 use lib.ListN.{length}
-use Rattle.steps.specs.Memory.{memory}
+use Rattle.steps.specs.Memory.{words_mut, SameLent}
 use Rattle.acts.specs.Worlds.{world}
 use Rattle.play.specs.Inner.{list_records}
 use Rattle.play.proofs.RunLaws.{Going}
@@ -10,12 +10,9 @@ use Rattle.play.proofs.run.Given as goal
 
 abbrev pub invariant-loop-k : goal.invariant-loop-k
 invariant-loop-k l =
-    Going l.bytes l.n (world l.initial.s (memory l.initial.readings l.initial.links l.initial.directory l.initial.pool))
-    l.initial.out l.initial.at (world l.s (memory l.readings l.links l.directory l.pool)) l.out l.at l.k
-    × ((list_records ≡ length l.words)
-    × ((length l.readings ≡ length l.initial.readings)
-    × ((length l.links ≡ length l.initial.links)
-    × ((length l.directory ≡ length l.initial.directory) × (length l.pool ≡ length l.initial.pool)))))
+    Going l.bytes l.n (world l.initial.s (words_mut l.initial.lent))
+    l.initial.out l.initial.at (world l.s (words_mut l.lent)) l.out l.at l.k
+    × ((list_records ≡ length l.words) × SameLent l.initial.lent l.lent)
 
 abbrev pub decreases-loop-k : goal.decreases-loop-k
 decreases-loop-k l = l.n - l.k

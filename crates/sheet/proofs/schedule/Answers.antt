@@ -7,6 +7,6 @@ use Rattle.sheet.proofs.schedule.Goals as goal
 
 pub returns : goal.returns
 returns c = left_filled _ _ c.args.file.header _ _ _
-    (filled_is c.args.file.header cell_room directory_room pool_room _ _ c.requires.p_high c.requires.m_high refl refl refl c.directory_words-entries.ensures
-    c.pool_words-words.ensures)
+    (filled_is c.args.file.header cell_room directory_room pool_room _ _ c.requires.p_high c.requires.m_high refl refl refl c.directory_words.ensures
+    c.pool_words.ensures)
     c.run.ensures

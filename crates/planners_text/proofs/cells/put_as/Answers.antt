@@ -2,8 +2,8 @@
 use Rattle.planners_text.proofs.LaidLaws.{as_outside, as_none}
 use Rattle.planners_text.proofs.cells.put_as.Goals as goal
 
-pub returns-in-Outside : goal.returns-in-Outside
-returns-in-Outside c = search (as_outside)
+pub returns-else-q : goal.returns-else-q
+returns-else-q c = search (as_none)
 
-pub returns-else-b : goal.returns-else-b
-returns-else-b c = search (as_none)
+pub returns-in-None : goal.returns-in-None
+returns-in-None c = search (as_outside)

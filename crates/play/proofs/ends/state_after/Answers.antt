@@ -4,4 +4,4 @@ use Rattle.play.proofs.EndLaws.{ending_start}
 use Rattle.play.proofs.ends.state_after.Goals as goal
 
 pub loop-k-init : goal.loop-k-init
-loop-k-init c = (search (ending_start), (refl, (refl, (refl, (refl, refl)))))
+loop-k-init c = (search (ending_start), (refl, search))

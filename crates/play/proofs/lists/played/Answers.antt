@@ -3,5 +3,5 @@ use native.Mathlib.Omega.{arith}
 use Rattle.play.proofs.ListLaws.{played_is}
 use Rattle.play.proofs.lists.played.Goals as goal
 
-pub returns : goal.returns
-returns c = played_is _ _ _ _ _ _ _ _ _ _ _ _ _ _ c.requires (omega arith) c.loop-i.invariant c.run.ensures.done c.run.ensures.told
+pub returns-clause-done : goal.returns-clause-done
+returns-clause-done c = played_is _ _ _ _ _ _ _ _ _ _ _ _ _ _ c.requires (omega arith) c.loop-i.invariant c.run.ensures.done c.run.ensures.told
