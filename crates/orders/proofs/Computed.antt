@@ -1,7 +1,6 @@
 -- The numbers, by computation.
 -- Assumes nothing.
-use Rattle.std.specs.Prelude.{Err}
-use Rattle.std.specs.Prelude.{ℕ, ◌≡◌, refl, ◌≢◌, List}
+use Rattle.std.specs.Prelude.{ℕ, ◌≡◌, refl, ◌≢◌, List, Err}
 use Rattle.std.proofs.Common.{ap, arith}
 use Rattle.refusals.specs.declared.Refusal.{Refusal}
 use Rattle.refusals.specs.Orders.{Rule, orders}

@@ -1,7 +1,6 @@
 -- Proof: what a run shows of each cell gives each line of the text, and what it shows of the state the refusals.
 -- Assumes nothing.
-use Rattle.std.specs.Prelude.{Ok, Err}
-use Rattle.std.specs.Prelude.{ℕ, ◌≡◌, Bool, ltb, length}
+use Rattle.std.specs.Prelude.{ℕ, ◌≡◌, Bool, ltb, length, Ok, Err}
 use Rattle.std.proofs.Math.Path.{refl, ap}
 use Rattle.std.proofs.Common.{sym, ◌∙◌, arith, ltb-true, lt-ltb}
 use Rattle.std.proofs.Math.Bool.{true, false}

@@ -1,8 +1,7 @@
 -- On a run at rest, the cells listed for the planners are those that the array of demand 2 has a write of, with its values; and when
 -- the text is refused, on any run.
 -- Assumes nothing.
-use Rattle.std.specs.Prelude.{Ok, Err}
-use Rattle.std.specs.Prelude.{ℕ, ◌<◌, ◌≡◌, not, List, [], ◌∷◌, ◌++◌, ltb, length}
+use Rattle.std.specs.Prelude.{ℕ, ◌<◌, ◌≡◌, not, List, [], ◌∷◌, ◌++◌, ltb, length, Ok, Err}
 use Rattle.logic.specs.Pick.{pick}
 use Rattle.lists.specs.Lists.{gathered}
 use Rattle.byte_lists.specs.Bytes.{splice}

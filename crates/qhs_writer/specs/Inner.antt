@@ -1,7 +1,6 @@
 -- What functions inside the crate ask and promise; no statement cites it.
 -- Assumes nothing.
-use Rattle.std.specs.Prelude.{Ok, Err}
-use Rattle.std.specs.Prelude.{ℕ, ◌+◌, ◌*◌, ◌≤◌, ◌≡◌, List, [], ◌∷◌, ltb, length}
+use Rattle.std.specs.Prelude.{ℕ, ◌+◌, ◌*◌, ◌≤◌, ◌≡◌, List, [], ◌∷◌, ltb, length, Ok, Err}
 use Rattle.refusals.specs.Orders.{◌gives◌, orders}
 use Rattle.refusals.specs.declared.Refusal.TheVariants as Refusal
 use Rattle.qhs.specs.declared.Header.{Header}

@@ -1,7 +1,6 @@
 -- What is handed in, and the page that it comes to, as one statement over a list. 16 has a statement of its own, `OverLong`.
 -- Assumes nothing.
-use Rattle.std.specs.Prelude.{Ok, Err}
-use Rattle.std.specs.Prelude.{ℕ, ◌-◌, ◌^◌, ◌≡◌, refl, List, [], ◌∷◌, ◌++◌, replicate}
+use Rattle.std.specs.Prelude.{ℕ, ◌-◌, ◌^◌, ◌≡◌, refl, List, [], ◌∷◌, ◌++◌, replicate, Ok, Err}
 use Rattle.logic.specs.Below.{below}
 use Rattle.refusals.specs.declared.Refusal.{Refusal}
 use Rattle.qhs.specs.declared.Header.{Header}
