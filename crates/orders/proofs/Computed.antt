@@ -1,6 +1,6 @@
 -- The numbers, by computation.
 -- Assumes nothing.
-use Rattle.std.specs.Prelude.{ℕ, ◌≡◌, refl, ◌≢◌, List, Ok, Err, Option, None, Some}
+use Rattle.std.specs.Prelude.{ℕ, ◌≡◌, refl, ◌≢◌, List, Err, Option, None, Some, Ok}
 use Rattle.std.proofs.Common.{ap, arith}
 use Rattle.refusals.specs.declared.Refusal.{Refusal}
 use Rattle.refusals.specs.Orders.{Rule, orders}

@@ -14,11 +14,5 @@ const OUTPUT: usize = HEADING + LINE * CELL_WORDS;
 fn main(rt: HostRuntime) -> io::Result<()> {
     let mut file = [0; qhs::INPUT];
     let mut out = [0; OUTPUT];
-    let n = streams::read_full(&mut rt.reader(), &mut file)?;
-    if let Some(end) = sheet::sheet(&file[..n], &mut out)
-        && let Some(bytes) = out.get(..end)
-    {
-        rt.write_all(bytes)?;
-    }
-    Ok(())
+    streams::pipe(&mut rt.reader(), &rt, &mut file, &mut out, sheet::sheet)
 }

@@ -1,11 +1,10 @@
 -- What is claimed of the planners' text. Definitions only: `ReadBack` and `Outcomes` have the proofs.
 -- Assumes nothing.
-use Rattle.std.specs.Prelude.{ℕ, ◌≡◌, List, length, take, drop, Some, Ok, Err}
-use Rattle.planners_text.specs.PlannersText.{Wrote}
+use Rattle.std.specs.Prelude.{ℕ, ◌≡◌, List, length, take, drop, Ok, Err, Some}
 use Rattle.refusals.specs.declared.Refusal.{Refusal}
 use Rattle.lanes.specs.declared.State.{State}
 use Rattle.steps.specs.Memory.{Memory}
-use Rattle.planners_text.specs.PlannersText.{page, write_of}
+use Rattle.planners_text.specs.PlannersText.{page, write_of, Wrote}
 use Rattle.planners_text.specs.Sheet.{sheet_in, written_cells}
 
 -- Any two outcomes that meet the promise coincide.

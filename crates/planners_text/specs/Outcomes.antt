@@ -1,7 +1,6 @@
 -- What a page comes to: one outcome, a refusal that writes nothing, and a text after which all bytes stay.
 -- Assumes nothing.
 use Rattle.std.specs.Prelude.{ℕ, ◌+◌, ◌≤◌, ◌≡◌, refl, Bool, true, false, List, [], ◌∷◌, ltb, length, take, drop, Ok, Err}
-use Rattle.planners_text.specs.PlannersText.{Wrote}
 use Rattle.std.proofs.Common.{sym, ap, ◌∙◌, arith, ltb-false}
 use Rattle.std.proofs.Math.Seq.{take-append_seam, drop-append_seam}
 use Rattle.logic.specs.Determined.{by_part}
@@ -12,7 +11,7 @@ use Rattle.lanes.specs.declared.State.{State}
 use Rattle.steps.specs.Memory.{Memory}
 use Rattle.byte_lists.specs.Bytes.{splice}
 use Rattle.byte_lists.specs.Places.{splice_length}
-use Rattle.planners_text.specs.PlannersText.{text_of, Page, page, put_text, text_refusals, write_of}
+use Rattle.planners_text.specs.PlannersText.{text_of, Page, page, put_text, text_refusals, write_of, Wrote}
 use Rattle.planners_text.specs.Claims.{OneText, BytesAfterStay, RefusedText}
 
 pub one_text : OneText

@@ -1,6 +1,6 @@
 -- A grid written out as RFC 4180 text into a lent buffer: document 02, W1.
 -- Assumes nothing.
-use Rattle.std.specs.Prelude.{ℕ, Bool, true, false, not, List, [], ◌∷◌, ◌++◌, ltb, length, Option, None, Some, Result, Ok, Err}
+use Rattle.std.specs.Prelude.{ℕ, Bool, true, false, not, List, [], ◌∷◌, ◌++◌, ltb, length, Result, Ok, Err, Option, None, Some}
 use Rattle.lists.specs.Lists.{gathered}
 use Rattle.logic.specs.Below.{below}
 use Rattle.refusals.specs.Orders.{Rule, ◌gives◌, orders}

@@ -1,7 +1,6 @@
 -- The answer for each kind of file.
 -- Assumes nothing.
 use Rattle.std.specs.Prelude.{Err, None}
-use Rattle.qhs.specs.Qhs.{Reading, scheduled}
 use Prim.Native.Nat.{ℕ, ◌+◌, ◌<◌, ◌≤◌}
 use mathlib.Core.Path.{◌≡◌, sym, ap, ◌∙◌}
 use mathlib.Core.List.{List}
@@ -10,7 +9,7 @@ use lib.ListN.{length}
 use borrow.Author.Tests.{le-leb, lt-leb}
 use Rattle.refusals.specs.declared.Refusal.{Refusal}
 use Rattle.qhs.specs.declared.Header.{Header}
-use Rattle.qhs.specs.Qhs.{read_of}
+use Rattle.qhs.specs.Qhs.{read_of, Reading, scheduled}
 use Rattle.qhs.specs.Laws.{schedule}
 use Rattle.steps.specs.Memory.{Memory}
 use Rattle.text.specs.Text.{file_refused_line}

@@ -1,14 +1,13 @@
 -- The schedule program's output, from the file's bytes: "Schedule file and its program" of document 01.
 -- Assumes nothing.
-use Rattle.std.specs.Prelude.{ℕ, zero, suc, ◌+◌, ◌*◌, ◌%◌, List, [], ◌∷◌, ◌++◌, leb, eqb, length, replicate, None, Some, Ok, Err}
-use Rattle.qhs.specs.Qhs.{Reading}
+use Rattle.std.specs.Prelude.{ℕ, zero, suc, ◌+◌, ◌*◌, ◌%◌, List, [], ◌∷◌, ◌++◌, leb, eqb, length, replicate, Ok, Err, Some, None}
 use Rattle.numbers.specs.Numbers.{most_processes, directory_words, pool_words}
 use Rattle.numbers.specs.declared.Cell.{Cell}
 use Rattle.numbers.specs.declared.Terms.{Terms}
 use Rattle.logic.specs.Pick.{pick}
 use Rattle.qhs.specs.declared.Header.{Header}
 use Rattle.qhs.specs.declared.Record.{Record}
-use Rattle.qhs.specs.Qhs.{most_records, most_file_cells, terms_of, record_at, read_of}
+use Rattle.qhs.specs.Qhs.{most_records, most_file_cells, terms_of, record_at, read_of, Reading}
 use Rattle.lanes.specs.declared.State.{State}
 use Rattle.steps.specs.Memory.{Memory, memory}
 use Rattle.acts.specs.declared.Ask.{Ask}

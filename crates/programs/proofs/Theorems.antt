@@ -1,8 +1,7 @@
 -- The theorems: for all bytes of a file, what each program prints is what a run of the grid answers.
 -- Assumes nothing.
-use Rattle.std.specs.Prelude.{◌≡◌, Bool, true, false, not, ◌≢◌, ltb, eqb, length, Ok, Err}
-use Rattle.qhs.specs.Qhs.{scheduled}
 use Prim.Native.Nat.{ℕ, zero, suc, ◌≤◌}
+use Rattle.std.specs.Prelude.{◌≡◌, Bool, true, false, not, ◌≢◌, ltb, eqb, length, Ok, Err}
 use Rattle.std.proofs.Math.Path.{refl, ap}
 use Rattle.std.proofs.Common.{sym, ◌∙◌, arith}
 use mathlib.Core.List.{List, ◌++◌}
@@ -13,7 +12,7 @@ use Rattle.refusals.specs.Numbers.{number_of}
 use Rattle.refusals.specs.Laws.{orders_then}
 use Rattle.qhs.specs.declared.Header.{Header}
 use Rattle.qhs.specs.declared.Record.{Record}
-use Rattle.qhs.specs.Qhs.{terms_of, record_at, read_of}
+use Rattle.qhs.specs.Qhs.{terms_of, record_at, read_of, scheduled}
 use Rattle.qhs.specs.Laws.{schedule}
 use Rattle.acts.specs.Calls as Grid
 use Rattle.acts.specs.Worlds.{grid, begin, step, World, answer_to, Accepted, opened_world}

@@ -1,12 +1,11 @@
 -- What the programs print is what runs of the grid answer: the statements.
 -- Assumes nothing.
 use Rattle.std.specs.Prelude.{ℕ, ◌≤◌, ◌≡◌, ◌≢◌, List, ◌++◌, length, Some, Err}
-use Rattle.qhs.specs.Qhs.{scheduled}
 use Rattle.lists.specs.Lists.{gathered}
 use Rattle.refusals.specs.Numbers.{number_of}
 use Rattle.refusals.specs.Orders.{orders}
 use Rattle.qhs.specs.declared.Header.{Header}
-use Rattle.qhs.specs.Qhs.{terms_of, record_at, read_of}
+use Rattle.qhs.specs.Qhs.{terms_of, record_at, read_of, scheduled}
 use Rattle.acts.specs.Worlds.{grid, Call, answer_to, Accepted, opened_world}
 use Rattle.byte_lists.specs.Bytes.{splice, Placed, placed, put_of}
 use Rattle.text.specs.Text.{answer_line, sizes_line, refused_line}

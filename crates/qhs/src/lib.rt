@@ -49,7 +49,7 @@ pub struct Header {
     pub fill: u64,
 }
 
-// A record's fields, as the file has them.
+// A record's fields, as the file has them: a kind is a byte, since a record is read from any bytes, those of no `Kind` too.
 #[derive(Clone, Copy)]
 pub struct Record {
     pub kind: u8,
@@ -76,8 +76,17 @@ pub const FILE_RECORDS: usize = (FILE_BYTES - VERSION_1.header) / VERSION_1.stri
 // A file's cells at the most.
 pub const FILE_CELLS: u32 = 2040;
 
-// The last of the kinds: 0 step, 1 read, 2 write, 3 asked.
-pub const LAST_KIND: u8 = 3;
+// What a record is for: the byte that a file has for it.
+#[derive(Clone, Copy, PartialEq, Eq)]
+pub enum Kind {
+    Step = 0,
+    Read = 1,
+    Write = 2,
+    Asked = 3,
+}
+
+// The last of the kinds.
+pub const LAST_KIND: u8 = Kind::Asked as u8;
 
 // Whether the file starts with "QHS".
 fn marked(bytes: &[u8]) -> bool

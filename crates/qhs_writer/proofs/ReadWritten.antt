@@ -1,8 +1,7 @@
 -- What the reader accepts is written again as the same bytes, ignored fields put to zero.
 -- Assumes nothing.
-use Rattle.std.specs.Prelude.{◌≡◌, true, ◌&&◌, List, [], ◌∷◌, ◌++◌, eqb, length, get_or, Ok}
-use Rattle.qhs.specs.Qhs.{scheduled}
 use Prim.Native.Nat.{ℕ, zero, suc, ◌+◌, ◌<◌, ◌≤◌}
+use Rattle.std.specs.Prelude.{◌≡◌, true, ◌&&◌, List, [], ◌∷◌, ◌++◌, eqb, length, get_or, Ok}
 use Rattle.std.proofs.Math.Path.{refl, ap}
 use Rattle.std.proofs.Common.{sym, ◌∙◌, ⊎_elim, not-suc-le-zero, eq-or-lt_of_le, arith, length-append, eqb-true, le-leb, lt-ltb, le-ltb}
 use Rattle.std.proofs.Math.ListN.{get_or-append}
@@ -11,7 +10,7 @@ use Rattle.logic.specs.Truth.{and_left, and_right}
 use Rattle.logic.specs.BelowLaws.{below_all}
 use Rattle.logic.specs.Pick.{pick}
 use Rattle.qhs.specs.declared.Header.{Header}
-use Rattle.qhs.specs.Qhs.{version1, most_kind, marked, version_of, header_of, record_start, record_in, record_at, records_in}
+use Rattle.qhs.specs.Qhs.{version1, most_kind, marked, version_of, header_of, record_start, record_in, record_at, records_in, scheduled}
 use Rattle.byte_lists.specs.Bytes.{byte_at, number_at, splice, bytes_of}
 use Rattle.qhs.specs.Laws.{Schedule, schedule}
 use Rattle.byte_lists.proofs.Digits.{Bytes, number_one, part, bytes_of_lem}

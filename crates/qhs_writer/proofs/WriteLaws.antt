@@ -1,7 +1,6 @@
 -- Each case of writing a file, as a law of its definition.
 -- Assumes nothing.
 use Rattle.std.specs.Prelude.{Ok, Err}
-use Rattle.qhs.specs.Qhs.{Counts}
 use mathlib.Core.Path.{◌≡◌, refl, sym, ap, ◌∙◌}
 use mathlib.Core.Bool.{Bool, true, false, not}
 use mathlib.Core.List.{List, ◌++◌}
@@ -14,7 +13,7 @@ use Rattle.logic.specs.Below.{below}
 use Rattle.logic.specs.BelowLaws.{below_fails, below_next}
 use Rattle.refusals.specs.declared.Refusal.{Refusal}
 use Rattle.qhs.specs.declared.Header.{Header}
-use Rattle.qhs.specs.Qhs.{most_bytes, most_records, most_file_cells, most_kind, counts_as}
+use Rattle.qhs.specs.Qhs.{most_bytes, most_records, most_file_cells, most_kind, counts_as, Counts}
 use Rattle.qhs.specs.Laws.{counted_as, counted}
 use Rattle.byte_lists.specs.Bytes.{splice}
 use Rattle.qhs_writer.specs.Writer.{header_bytes, record_bytes, Fields, count, head_bytes, entries_below, file_of, known, Page, page, write_of}

@@ -1,6 +1,5 @@
 -- What the writer writes, the reader accepts and gives back, ignored fields as zero.
 -- Assumes nothing.
-use Rattle.qhs.specs.Qhs.{scheduled}
 use Prim.Native.Nat.{ℕ, zero, suc, ◌+◌, ◌%◌, ◌^◌, ◌<◌, ◌≤◌}
 use Rattle.std.specs.Prelude.{◌≡◌, refl, Bool, true, false, eqb, length}
 use Rattle.std.proofs.Math.Path.{sym}
@@ -10,7 +9,7 @@ use Rattle.numbers.specs.Numbers.{most_processes}
 use Rattle.logic.specs.BelowLaws.{below_all, below_at}
 use Rattle.logic.specs.Pick.{pick}
 use Rattle.qhs.specs.declared.Header.{Header}
-use Rattle.qhs.specs.Qhs.{version1, most_file_cells, most_kind, marked, version_of, header_of, fields_at, record_start}
+use Rattle.qhs.specs.Qhs.{version1, most_file_cells, most_kind, marked, version_of, header_of, fields_at, record_start, scheduled}
 use Rattle.qhs.specs.Qhs.{record_in, record_at, body_bytes, records_in, kind_fits, kinds_fit, read_in, read_of}
 use Rattle.byte_lists.specs.Bytes.{number_at, bytes_of}
 use Rattle.qhs.specs.Laws.{Words, Counted, Schedule}

@@ -1,15 +1,13 @@
 -- What is claimed of the schedule file's writer. Definitions only: `Outcomes`, `WrittenRead` and `ReadWritten` have the proofs.
 -- Assumes nothing.
 use Rattle.std.specs.Prelude.{ℕ, ◌^◌, ◌<◌, ◌≤◌, ◌≡◌, List, length, get_or, take, drop, Ok, Err}
-use Rattle.qhs.specs.Qhs.{scheduled}
-use Rattle.qhs_writer.specs.Writer.{Wrote}
 use Rattle.refusals.specs.declared.Refusal.{Refusal}
 use Rattle.qhs.specs.declared.Header.{Header}
-use Rattle.qhs.specs.Qhs.{most_records, record_at, read_of}
+use Rattle.qhs.specs.Qhs.{most_records, record_at, read_of, scheduled}
 use Rattle.qhs.specs.Laws.{Words}
 use Rattle.byte_lists.proofs.Digits.{Bytes}
 use Rattle.byte_lists.specs.Bytes.{splice}
-use Rattle.qhs_writer.specs.Writer.{Fields, count, entry_at, needed, page, write_of}
+use Rattle.qhs_writer.specs.Writer.{Fields, count, entry_at, needed, page, write_of, Wrote}
 use Rattle.qhs_writer.specs.Again.{fields_of, read_as, zeroed}
 
 -- Any two outcomes that meet the promise coincide.

@@ -1,14 +1,13 @@
 -- The schedule file's writer, version 1: a header and records as bytes in a lent buffer: document 02, W2.
 -- Assumes nothing.
 use Rattle.std.specs.Prelude.{ℕ, zero, suc, min, Bool, not, List, [], ◌∷◌, ◌++◌, leb, ltb, eqb, length, get_or, Result, Ok, Err}
-use Rattle.byte_lists.specs.Bytes.{bytes_of}
 use Rattle.logic.specs.Below.{below}
 use Rattle.refusals.specs.Orders.{Rule, ◌gives◌, orders}
 use Rattle.logic.specs.Pick.{pick}
 use Rattle.refusals.specs.declared.Refusal.{Refusal}
 use Rattle.qhs.specs.declared.Header.{Header}
 use Rattle.qhs.specs.Qhs.{version1, most_bytes, most_file_cells, most_kind, open_refusals}
-use Rattle.byte_lists.specs.Bytes.{word, splice}
+use Rattle.byte_lists.specs.Bytes.{word, splice, bytes_of}
 use Rattle.qhs_writer.specs.declared.Entry.{Entry}
 
 -- The writer's files are of version 1, with 16-bit cells.

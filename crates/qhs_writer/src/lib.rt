@@ -24,7 +24,9 @@ pub struct Entry {
 fn count(kinds: &[u8], processes: &[u8], cells: &[u16], values: &[u32]) -> usize
     ensures { result ≡ count (fields kinds.now processes.now cells.now values.now) }
 {
-    kinds.len().min(processes.len().min(cells.len().min(values.len())))
+    kinds
+        .len()
+        .min(processes.len().min(cells.len().min(values.len())))
 }
 
 // Whether the first n kinds are known.

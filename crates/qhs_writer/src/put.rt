@@ -5,12 +5,7 @@ ghost use Rattle.byte_lists.specs.Bytes.{bytes_of};
 ghost use Rattle.qhs_writer.specs.Inner.{Laid, Within};
 
 use super::Entry;
-use qhs::{Header, VERSION_1};
-
-// The kinds whose fields are looked at: a step needs no cell, and a write alone a value.
-const STEP: u8 = 0;
-
-const WRITE: u8 = 2;
+use qhs::{Header, Kind, VERSION_1};
 
 // The little-endian bytes of a number, `width` of them.
 fn number(out: &mut [u8], at: usize, width: usize, n: u64) -> usize
@@ -63,14 +58,14 @@ pub fn header(h: Header, out: &mut [u8]) -> usize
     back(h, at, out)
 }
 
-// A record with the fields that its kind doesn't need put to zero.
+// A record with the fields that its kind doesn't need put to zero: a step needs no cell, and a write alone a value.
 fn needed(e: Entry) -> Entry
     ensures { result ≡ needed e }
 {
-    if e.kind == WRITE {
+    if e.kind == Kind::Write as u8 {
         return e;
     }
-    if e.kind == STEP {
+    if e.kind == Kind::Step as u8 {
         return Entry {
             kind: e.kind,
             process: e.process,

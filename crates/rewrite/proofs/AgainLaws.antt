@@ -1,8 +1,6 @@
 -- Each case of the rewriting program's output, as a law of its definition.
 -- Assumes nothing.
 use Rattle.std.specs.Prelude.{Ok, Err, Some}
-use Rattle.qhs.specs.Qhs.{Reading, scheduled}
-use Rattle.qhs_writer.specs.Writer.{Wrote}
 use Prim.Native.Nat.{ℕ, ◌+◌, ◌^◌, ◌<◌, ◌≤◌}
 use mathlib.Core.Path.{◌≡◌, refl, sym, ap, ◌∙◌}
 use mathlib.Core.List.{List}
@@ -13,13 +11,13 @@ use lib.Seq.{take-suc-set, take_all}
 use Rattle.refusals.specs.declared.Refusal.{Refusal}
 use Rattle.qhs.specs.declared.Header.{Header}
 use Rattle.qhs.specs.declared.Record.{Record}
-use Rattle.qhs.specs.Qhs.{version1, most_records, record_in, record_at, read_of}
+use Rattle.qhs.specs.Qhs.{version1, most_records, record_in, record_at, read_of, Reading, scheduled}
 use Rattle.qhs.specs.Laws.{schedule}
 use Rattle.byte_lists.proofs.Digits.{Bytes, number_below}
 use Rattle.qhs.specs.Parts.{part_length}
 use Rattle.text.specs.Text.{file_refused_line}
 use Rattle.byte_lists.specs.Bytes.{Placed, placed, put_of}
-use Rattle.qhs_writer.specs.Writer.{Fields, fields, Page, page, write_of}
+use Rattle.qhs_writer.specs.Writer.{Fields, fields, Page, page, write_of, Wrote}
 use Rattle.qhs_writer.specs.Again.{listed, fields_of}
 use Rattle.rewrite.specs.Again.{shown_as, shown, written, again_as, again_of}
 use Rattle.rewrite.specs.Inner.{Room}

@@ -1,13 +1,11 @@
 -- The rewriting program's output, from the file's bytes: the file as the writer writes it, or why there is none.
 -- Assumes nothing.
-use Rattle.std.specs.Prelude.{ℕ, List, Some, Ok, Err}
-use Rattle.qhs.specs.Qhs.{Reading}
-use Rattle.qhs_writer.specs.Writer.{Wrote}
+use Rattle.std.specs.Prelude.{ℕ, List, Ok, Err, Some}
 use Rattle.qhs.specs.declared.Header.{Header}
-use Rattle.qhs.specs.Qhs.{read_of}
+use Rattle.qhs.specs.Qhs.{read_of, Reading}
 use Rattle.text.specs.Text.{file_refused_line}
 use Rattle.byte_lists.specs.Bytes.{Placed, placed, put_of}
-use Rattle.qhs_writer.specs.Writer.{Page, write_of}
+use Rattle.qhs_writer.specs.Writer.{Page, write_of, Wrote}
 use Rattle.qhs_writer.specs.Again.{fields_of}
 
 -- A refused file prints only `file refused R`, whether the reader or the writer refuses it.

@@ -6,11 +6,5 @@ use std::io;
 fn main(rt: HostRuntime) -> io::Result<()> {
     let mut file = [0; qhs::INPUT];
     let mut out = [0; play::OUTPUT];
-    let n = streams::read_full(&mut rt.reader(), &mut file)?;
-    if let Some(end) = play::play(&file[..n], &mut out)
-        && let Some(bytes) = out.get(..end)
-    {
-        rt.write_all(bytes)?;
-    }
-    Ok(())
+    streams::pipe(&mut rt.reader(), &rt, &mut file, &mut out, play::play)
 }

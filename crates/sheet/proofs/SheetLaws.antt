@@ -1,14 +1,12 @@
 -- Each case of the planners' output, as a law of its definition.
 -- Assumes nothing.
 use Rattle.std.specs.Prelude.{Ok, Err, Some}
-use Rattle.qhs.specs.Qhs.{Reading, scheduled}
-use Rattle.planners_text.specs.PlannersText.{Wrote}
 use Prim.Native.Nat.{ℕ}
 use mathlib.Core.Path.{◌≡◌, sym, ap, ◌∙◌}
 use mathlib.Core.List.{List}
 use Rattle.refusals.specs.declared.Refusal.{Refusal}
 use Rattle.qhs.specs.declared.Header.{Header}
-use Rattle.qhs.specs.Qhs.{terms_of, read_of}
+use Rattle.qhs.specs.Qhs.{terms_of, read_of, Reading, scheduled}
 use Rattle.qhs.specs.Laws.{schedule}
 use Rattle.lanes.specs.declared.State.{State}
 use Rattle.steps.specs.Memory.{Memory}
@@ -16,7 +14,7 @@ use Rattle.acts.specs.Worlds.{grid, World, world, opened_world}
 use Rattle.text.specs.Text.{refused_line, file_refused_line}
 use Rattle.byte_lists.specs.Bytes.{Placed, placed, put_of}
 use Rattle.play.specs.Play.{filled, after}
-use Rattle.planners_text.specs.PlannersText.{page, write_of}
+use Rattle.planners_text.specs.PlannersText.{page, write_of, Wrote}
 use Rattle.sheet.specs.Sheet.{shown, shown_of, left, sheet_as, sheet_of}
 use Rattle.sheet.specs.Inner.{Small}
 

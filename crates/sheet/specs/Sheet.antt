@@ -1,17 +1,15 @@
 -- The planners' program's output, from the file's bytes: the text of the grid that the file leaves, or why there is none.
 -- Assumes nothing.
-use Rattle.std.specs.Prelude.{ℕ, List, Some, Ok, Err}
-use Rattle.qhs.specs.Qhs.{Reading}
-use Rattle.planners_text.specs.PlannersText.{Wrote}
+use Rattle.std.specs.Prelude.{ℕ, List, Ok, Err, Some}
 use Rattle.qhs.specs.declared.Header.{Header}
-use Rattle.qhs.specs.Qhs.{terms_of, read_of}
+use Rattle.qhs.specs.Qhs.{terms_of, read_of, Reading}
 use Rattle.lanes.specs.declared.State.{State}
 use Rattle.steps.specs.Memory.{Memory}
 use Rattle.acts.specs.Worlds.{grid, World, opened_world}
 use Rattle.text.specs.Text.{refused_line, file_refused_line}
 use Rattle.byte_lists.specs.Bytes.{Placed, placed, put_of}
 use Rattle.play.specs.Play.{filled, after}
-use Rattle.planners_text.specs.PlannersText.{Page, write_of}
+use Rattle.planners_text.specs.PlannersText.{Page, write_of, Wrote}
 
 -- The grid's text; where it is refused, `refused R`.
 abbrev pub shown_as : List ℕ → Wrote → Placed
