@@ -15,13 +15,10 @@ pub extern "C" fn grid_opens(
     n: u32,
 ) -> u32 {
     let mut sum: u32 = 0;
-    let mut i: u32 = 0;
-    while i < n {
+    for i in 0..n {
         let o = grid::open(super::terms(p, m, i), readings, links, directory, pool);
         let b = grid::begin(o.state, Process(0), Ask::Read(Cell(0)));
-        let s = b.state;
-        sum = std::num::wrapping_add_u32(sum, s.terms.first);
-        i = i + 1;
+        sum = sum.wrapping_add(b.state.terms.first);
     }
     sum
 }
@@ -38,14 +35,10 @@ pub extern "C" fn grid_begins(
     n: u32,
 ) -> u32 {
     let o = grid::open(super::terms(p, m, 7), readings, links, directory, pool);
-    let t = o.state;
     let mut sum: u32 = 0;
-    let mut i: u32 = 0;
-    while i < n {
-        let b = grid::begin(t, Process(0), Ask::Read(Cell(0)));
-        let s = b.state;
-        sum = std::num::wrapping_add_u32(sum, s.terms.first);
-        i = i + 1;
+    for _ in 0..n {
+        let b = grid::begin(o.state, Process(0), Ask::Read(Cell(0)));
+        sum = sum.wrapping_add(b.state.terms.first);
     }
     sum
 }
