@@ -25,23 +25,13 @@ pub enum Call {
     Text(usize, u8),
 }
 
-fn numbers(words: [u64; 4]) -> Result<[u32; 4], Fault> {
-    let [a, b, c, d] = words;
-    Ok([
-        u32::try_from(a)?,
-        u32::try_from(b)?,
-        u32::try_from(c)?,
-        u32::try_from(d)?,
-    ])
-}
-
 impl TryFrom<[u64; CALL]> for Call {
     type Error = Fault;
 
     // That there is no such call is told before a number that does not fit.
     fn try_from(words: [u64; CALL]) -> Result<Call, Fault> {
         let [call, a, b, c, d] = words;
-        let numbers = numbers([a, b, c, d]);
+        let numbers = run::arguments([a, b, c, d]);
         match (call, b) {
             (0, _) => {
                 let [p, m, first, step] = numbers?;
@@ -59,14 +49,8 @@ impl TryFrom<[u64; CALL]> for Call {
                 let [q, _, i, _] = numbers?;
                 Ok(Call::Begin(Process(q), Ask::Asked(Cell(i))))
             }
-            (2, _) => {
-                let [q, _, _, _] = numbers?;
-                Ok(Call::Step(Process(q)))
-            }
-            (3, _) => {
-                let [hour, _, _, _] = numbers?;
-                Ok(Call::Hour(hour))
-            }
+            (2, _) => Ok(Call::Step(Process(numbers?[0]))),
+            (3, _) => Ok(Call::Hour(numbers?[0])),
             (4, _) if a > PAGE as u64 => Err(Fault::Length),
             (4, _) => {
                 let [room, fill, _, _] = numbers?;

@@ -16,7 +16,10 @@ fn say(rt: &impl Print, text: impl Display + Drop) {
 fn place(rt: &impl Print, example: u32, n: u64) {
     let s = numbers::segment_of(Place(n));
     let o = numbers::offset_of(Place(n));
-    say(rt, format_args!("{example} place {n}: segment {s} offset {o}\n"));
+    say(
+        rt,
+        format_args!("{example} place {n}: segment {s} offset {o}\n"),
+    );
 }
 
 // A link's process and place.
@@ -47,7 +50,10 @@ fn alone(rt: &impl Print) {
     e.walk(rt, 0, 9);
     let (q, n) = pair(e.links[0]);
     let marks = e.state.lanes[0].marks;
-    say(rt, format_args!("link 0 is ({q}, {n}), marks in force {marks}\n"));
+    say(
+        rt,
+        format_args!("link 0 is ({q}, {n}), marks in force {marks}\n"),
+    );
     say(rt, "6 ");
     e.write(rt, 0, 1, 8);
     e.walk(rt, 0, 10);
@@ -100,7 +106,10 @@ fn race(rt: &impl Print) {
     let l = e.state.lanes[0].marks;
     let m = e.state.lanes[1].marks;
     let top = e.state.top;
-    say(rt, format_args!("marks in force {l} and {m}; drawn {top}\n"));
+    say(
+        rt,
+        format_args!("marks in force {l} and {m}; drawn {top}\n"),
+    );
 }
 
 fn main(rt: HostRuntime) {

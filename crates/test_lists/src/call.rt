@@ -28,18 +28,15 @@ impl TryFrom<[u64; CALL]> for Call {
     // That there is no such call is told before a number that does not fit.
     fn try_from(words: [u64; CALL]) -> Result<Call, Fault> {
         let [call, a, b, c, d] = words;
-        if !matches!(call, 5 | 6) {
-            return Err(Fault::Call);
+        let numbers = run::arguments([a, b, c, d]);
+        match call {
+            5 => numbers.map(|_| Call::Batch),
+            6 => {
+                let [p, m, first, step] = numbers?;
+                Ok(Call::File(p, m, first, step))
+            }
+            _ => Err(Fault::Call),
         }
-        let p = u32::try_from(a)?;
-        let m = u32::try_from(b)?;
-        let first = u32::try_from(c)?;
-        let step = u32::try_from(d)?;
-        Ok(if call == 5 {
-            Call::Batch
-        } else {
-            Call::File(p, m, first, step)
-        })
     }
 }
 

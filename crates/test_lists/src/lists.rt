@@ -1,4 +1,4 @@
-// The five lists that come after a vector's memories, each in the form of a memory.
+// The five lists that come after a vector's memories, each in the form of a memory; and a list in words of another type.
 
 // The words of a list at the most, and of the last one, which is written to.
 pub const LIST: usize = 8192;
@@ -14,7 +14,7 @@ pub struct Lists<'a> {
     pub values: &'a [u32],
 }
 
-// A list in words of another type, each by itself, as far as there is room: the words that have one.
+// Each word of a list in another type, as far as there is room; what was written.
 pub fn turned<'a, A: Copy, B: Copy, F: Fn(A) -> B>(
     from: &[A],
     to: &'a mut [B],

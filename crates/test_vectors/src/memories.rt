@@ -1,6 +1,5 @@
 // A vector's memories: a length, a fill and exceptions, put into lent words.
 use super::fault::Fault;
-use super::limits::{CELL_WORDS, DIRECTORY_WORDS, POOL_WORDS};
 use super::rest::Rest;
 use numbers::Mark;
 use std::num::TryFromIntError;
@@ -15,6 +14,7 @@ pub fn lend<'a, T: Copy + TryFrom<u64, Error = TryFromIntError>>(
     let fill = T::try_from(fill)?;
     let twice = exceptions.checked_mul(2).ok_or(Fault::Cut)?;
     let (pairs, _) = rest.take(twice as usize)?.as_chunks::<2>();
+    // `fill` asks for a clone that cannot fail, which no bound of T says
     for w in words.iter_mut() {
         *w = fill;
     }
@@ -37,26 +37,6 @@ fn place<T: Copy + TryFrom<u64, Error = TryFromIntError>>(
         low = *index + 1;
     }
     Ok(())
-}
-
-// Room for the four memories of any vector.
-#[derive(Drop)]
-pub(crate) struct Store {
-    pub readings: [u32; CELL_WORDS],
-    pub links: [u64; CELL_WORDS],
-    pub directory: [u32; DIRECTORY_WORDS],
-    pub pool: [Mark; POOL_WORDS],
-}
-
-impl Store {
-    pub(crate) fn new() -> Store {
-        Store {
-            readings: [0; CELL_WORDS],
-            links: [0; CELL_WORDS],
-            directory: [0; DIRECTORY_WORDS],
-            pool: [0; POOL_WORDS],
-        }
-    }
 }
 
 // What a vector fills its memories with.

@@ -1,8 +1,10 @@
 // All vectors of an input, one after the other.
+ghost use Rattle.std.specs.Prelude.{◌≡◌, ◌<◌, All, IfOk, OnErr};
+
 use super::fault::Fault;
-use super::limits::{CALL, HEAD, INPUT, READ};
+use super::limits::{CALL, CELL_WORDS, DIRECTORY_WORDS, HEAD, INPUT, POOL_WORDS, READ};
 use super::memories;
-use super::memories::{Fills, Store};
+use super::memories::Fills;
 use super::nine::Nine;
 use super::out::Out;
 use super::rest::Rest;
@@ -28,17 +30,36 @@ pub trait Call: TryFrom<[u64; CALL], Error = Fault> + Copy {
     ) -> Result<(), Fault>;
 }
 
+// Room for the four memories of any vector.
+#[derive(Drop)]
+struct Store {
+    readings: [u32; CELL_WORDS],
+    links: [u64; CELL_WORDS],
+    directory: [u32; DIRECTORY_WORDS],
+    pool: [Mark; POOL_WORDS],
+}
+
+// Four words that fit in 32 bits each.
+pub fn arguments(words: [u64; 4]) -> Result<[u32; 4], Fault>
+    ensures ok { IfOk result (λ numbers. numbers ≡ words) }
+    ensures err { OnErr result (¬ All (λ w. w < 4294967296) words) }
+{
+    let [a, b, c, d] = words;
+    Ok([
+        u32::try_from(a)?,
+        u32::try_from(b)?,
+        u32::try_from(c)?,
+        u32::try_from(d)?,
+    ])
+}
+
 // A vector's call and state; its words after them are left.
 fn head<C: Call>(rest: &mut Rest<'_>) -> Result<(C, State), Fault> {
     let mut head = Rest(rest.take(HEAD)?);
     let call = C::try_from(head.array::<CALL>()?)?;
-    let [p, m, first, step, top] = head.array::<5>()?;
-    let terms = Terms {
-        p: u32::try_from(p)?,
-        m: u32::try_from(m)?,
-        first: u32::try_from(first)?,
-        step: u32::try_from(step)?,
-    };
+    let [p, m, first, step] = arguments(head.array::<4>()?)?;
+    let [top] = head.array::<1>()?;
+    let terms = Terms { p, m, first, step };
     let top = u32::try_from(top)?;
     let idle = Lane {
         marks: 0,
@@ -81,7 +102,12 @@ fn one<C: Call, W: Write>(
 
 // Every vector's seven lines, or those up to the first damaged one and then why. Where the input's last word is cut, so is the last vector.
 fn all<C: Call, W: Write>(words: &[u64], cut: bool, out: &mut W) {
-    let mut store = Store::new();
+    let mut store = Store {
+        readings: [0; CELL_WORDS],
+        links: [0; CELL_WORDS],
+        directory: [0; DIRECTORY_WORDS],
+        pool: [0; POOL_WORDS],
+    };
     let mut rest = Rest(words);
     // a vector has at least a word, so that there are no more of them
     for k in 0..=words.len() {

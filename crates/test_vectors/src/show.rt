@@ -22,32 +22,28 @@ pub enum Said {
 
 // ---- the answer
 
-fn refused<W: Write>(out: &mut W, r: Refusal) -> fmt::Result {
-    write!(out, "refused {}", refusals::number(r))
-}
-
-fn told<W: Write>(out: &mut W, a: Answer) -> fmt::Result {
+fn told<W: Write>(f: &mut fmt::Formatter<W>, a: Answer) -> fmt::Result {
     match a {
-        Answer::Begun => out.write_str("begun"),
-        Answer::Going => out.write_str("going"),
-        Answer::Read(v, b, n) => write!(out, "read {v} {} {n}", u8::from(b)),
-        Answer::Written(n) => write!(out, "written {n}"),
-        Answer::Asked(b, n) => write!(out, "asked {} {n}", u8::from(b)),
-        Answer::Refused(r) => refused(out, r),
+        Answer::Begun => write!(f, "begun"),
+        Answer::Going => write!(f, "going"),
+        Answer::Read(v, b, n) => write!(f, "read {v} {} {n}", u8::from(b)),
+        Answer::Written(n) => write!(f, "written {n}"),
+        Answer::Asked(b, n) => write!(f, "asked {} {n}", u8::from(b)),
+        Answer::Refused(r) => write!(f, "refused {}", refusals::number(r)),
     }
 }
 
-fn answer<W: Write>(out: &mut W, said: Result<Said, Refusal>) -> fmt::Result {
-    match said {
-        Ok(Said::Opened) => out.write_str("open ok")?,
-        Ok(Said::Told(a)) => told(out, a)?,
-        Ok(Said::Hour(h)) => write!(out, "hour {} {} {}", h.peak, h.mean, h.count)?,
-        Ok(Said::Text(n)) => write!(out, "text {n}")?,
-        Ok(Said::Batch) => out.write_str("batch")?,
-        Ok(Said::File(n)) => write!(out, "file {n}")?,
-        Err(r) => refused(out, r)?,
+impl fmt::Display for Said {
+    fn fmt<W: Write>(&self, f: &mut fmt::Formatter<W>) -> fmt::Result {
+        match *self {
+            Said::Opened => write!(f, "open ok"),
+            Said::Told(a) => told(f, a),
+            Said::Hour(h) => write!(f, "hour {} {} {}", h.peak, h.mean, h.count),
+            Said::Text(n) => write!(f, "text {n}"),
+            Said::Batch => write!(f, "batch"),
+            Said::File(n) => write!(f, "file {n}"),
+        }
     }
-    out.write_str("\n")
 }
 
 // ---- the state
@@ -63,7 +59,10 @@ fn state<W: Write>(out: &mut W, s: &State) -> fmt::Result {
 
 // The answer and the state after it.
 pub fn answered<W: Write>(out: &mut W, s: &State, said: Result<Said, Refusal>) -> fmt::Result {
-    answer(out, said)?;
+    match said {
+        Ok(said) => writeln!(out, "{said}")?,
+        Err(r) => writeln!(out, "refused {}", refusals::number(r))?,
+    }
     state(out, s)
 }
 
