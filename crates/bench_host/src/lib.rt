@@ -12,8 +12,8 @@ use numbers::{Cell, Mark, Process, Terms};
 const MOST: u32 = 11;
 
 // An answer as one word: what it is in bits 40 and up, the operation's steps in bits 32 to 39, the value below.
-fn packed(what: u64, steps: u8, value: u32) -> u64 {
-    (what % 16) * 1099511627776 + (steps as u64) * 4294967296 + value as u64
+fn packed(what: u8, steps: u8, value: u32) -> u64 {
+    (u64::from(what) << 40) | (u64::from(steps) << 32) | u64::from(value)
 }
 
 pub fn word_of(a: Answer) -> u64 {
@@ -22,7 +22,7 @@ pub fn word_of(a: Answer) -> u64 {
         Answer::Going => packed(2, 0, 0),
         Answer::Read(v, b, k) => packed(if b { 7 } else { 3 }, k, v),
         Answer::Written(k) => packed(4, k, 0),
-        Answer::Asked(b, k) => packed(5, k, b as u32),
+        Answer::Asked(b, k) => packed(5, k, u32::from(b)),
         Answer::Refused(r) => packed(6, 0, refusals::number(r)),
     }
 }

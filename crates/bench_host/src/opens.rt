@@ -1,4 +1,5 @@
-// Opening, by itself.
+// Opening, by itself. The benchmark takes the second loop's count from the first's. Each state has a variable in both (`t` and `s`):
+// without them the compiler makes other copies in one than in the other.
 use acts::Ask;
 use numbers::{Cell, Mark, Process};
 
@@ -18,7 +19,8 @@ pub extern "C" fn grid_opens(
     for i in 0..n {
         let o = grid::open(super::terms(p, m, i), readings, links, directory, pool);
         let b = grid::begin(o.state, Process(0), Ask::Read(Cell(0)));
-        sum = sum.wrapping_add(b.state.terms.first);
+        let s = b.state;
+        sum = sum.wrapping_add(s.terms.first);
     }
     sum
 }
@@ -35,10 +37,12 @@ pub extern "C" fn grid_begins(
     n: u32,
 ) -> u32 {
     let o = grid::open(super::terms(p, m, 7), readings, links, directory, pool);
+    let t = o.state;
     let mut sum: u32 = 0;
     for _ in 0..n {
-        let b = grid::begin(o.state, Process(0), Ask::Read(Cell(0)));
-        sum = sum.wrapping_add(b.state.terms.first);
+        let b = grid::begin(t, Process(0), Ask::Read(Cell(0)));
+        let s = b.state;
+        sum = sum.wrapping_add(s.terms.first);
     }
     sum
 }

@@ -74,8 +74,8 @@ impl<const M: usize, const D: usize, const P: usize> Example<M, D, P> {
     // n steps of process q, and the last one's answer.
     pub fn walk(&mut self, rt: &impl Print, q: u32, n: u32) {
         let mut last = Answer::Begun;
-        for k in 0..n {
-            last = self.traced(rt, q, k + 1);
+        for k in 1..=n {
+            last = self.traced(rt, q, k);
         }
         answered(rt, last);
     }
