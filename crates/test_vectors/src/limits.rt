@@ -1,10 +1,12 @@
 // What a vector may hold, and how much input is taken. The memories are those of a grid of 65,536 cells, whatever the largest grid is.
 use numbers::{CELL_MARKS, LANES, PROCESS_MARKS, SEGMENTS};
 
-// A vector's call and its arguments, and its call and state.
+// The words of a vector's call with its arguments, of a lane, and of the call and the state: the terms, the top and the lanes.
 pub const CALL: usize = 5;
 
-pub const HEAD: usize = 154;
+pub const LANE_WORDS: usize = 9;
+
+pub const HEAD: usize = CALL + 5 + LANE_WORDS * LANES;
 
 // The last stage of a lane.
 pub const LAST_STAGE: u64 = 21;

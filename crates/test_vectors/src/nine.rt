@@ -2,23 +2,23 @@
 ghost use Rattle.std.specs.Prelude.{◌≤◌};
 
 use super::fault::Fault;
-use super::limits::LAST_STAGE;
+use super::limits::{LANE_WORDS, LAST_STAGE};
 use lanes::{Check, Lane, Marking, Op};
 use numbers::{Cell, Place};
 use std::fmt;
 
 #[derive(Clone, Copy)]
 pub struct Nine {
-    pub marks: u64,
-    pub drawn: u64,
-    pub steps: u64,
-    pub stage: u64,
-    pub cell: u64,
-    pub value: u64,
-    pub link: u64,
-    pub place: u64,
+    marks: u64,
+    drawn: u64,
+    steps: u64,
+    stage: u64,
+    cell: u64,
+    value: u64,
+    link: u64,
+    place: u64,
     // plus 2^32 where the tombstone is stored already
-    pub start: u64,
+    start: u64,
 }
 
 const STORED: u64 = 4294967296;
@@ -40,8 +40,8 @@ impl fmt::Display for Nine {
 
 // ---- from words to a lane
 
-impl From<[u64; 9]> for Nine {
-    fn from(words: [u64; 9]) -> Nine {
+impl From<[u64; LANE_WORDS]> for Nine {
+    fn from(words: [u64; LANE_WORDS]) -> Nine {
         let [marks, drawn, steps, stage, cell, value, link, place, start] = words;
         Nine {
             marks,
@@ -122,6 +122,7 @@ fn noted(stored: bool, start: u32) -> u64 {
 }
 
 impl Nine {
+    // The same lane, at a stage of an operation on cell i.
     fn at(self, stage: u64, i: Cell) -> Nine {
         Nine {
             stage,

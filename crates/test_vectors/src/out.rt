@@ -44,6 +44,7 @@ impl<P: Print> fmt::Write for Out<'_, P> {
         let bytes = s.as_bytes();
         if self.keep(bytes).is_none() {
             self.flush();
+            // no text is longer than the room
             let _ = self.keep(bytes);
         }
         Ok(())

@@ -2,7 +2,7 @@
 ghost use Rattle.std.specs.Prelude.{◌≡◌, ◌<◌, All, IfOk, OnErr};
 
 use super::fault::Fault;
-use super::limits::{CALL, CELL_WORDS, DIRECTORY_WORDS, HEAD, INPUT, POOL_WORDS, READ};
+use super::limits::{CALL, CELL_WORDS, DIRECTORY_WORDS, HEAD, INPUT, LANE_WORDS, POOL_WORDS, READ};
 use super::memories;
 use super::memories::Fills;
 use super::nine::Nine;
@@ -69,7 +69,7 @@ fn head<C: Call>(rest: &mut Rest<'_>) -> Result<(C, State), Fault> {
     };
     let mut lanes = [idle; LANES];
     for lane in lanes.iter_mut() {
-        *lane = Lane::try_from(Nine::from(head.array::<9>()?))?;
+        *lane = Lane::try_from(Nine::from(head.array::<LANE_WORDS>()?))?;
     }
     Ok((call, State { terms, top, lanes }))
 }
