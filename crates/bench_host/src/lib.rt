@@ -11,11 +11,13 @@ use numbers::{Cell, Mark, Process, Terms};
 // No operation takes more steps.
 const MOST: u32 = 11;
 
-// An answer as one word: what it is in bits 40 and up, the operation's steps in bits 32 to 39, the value below.
+// An answer as one word, as the C program reads it: what it is in bits 40 and up, the operation's steps in bits 32 to 39, the value
+// below.
 fn packed(what: u8, steps: u8, value: u32) -> u64 {
     (u64::from(what) << 40) | (u64::from(steps) << 32) | u64::from(value)
 }
 
+// No `From`: neither type is of this crate.
 pub fn word_of(a: Answer) -> u64 {
     match a {
         Answer::Begun => packed(1, 0, 0),
@@ -31,7 +33,7 @@ fn goes_on(a: Answer) -> bool {
     matches!(a, Answer::Begun | Answer::Going)
 }
 
-// The first `before` operations write; of the others kind 0 reads, 1 writes, any other asks.
+// The first `before` operations write; of the others kind 0 reads, 1 writes, any other asks, as the C program counts them.
 fn ask_of(v: u32, before: u32, kind: u32, i: u32) -> Ask {
     if v < before {
         return Ask::Write(Cell(i), v);

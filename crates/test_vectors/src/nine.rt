@@ -58,7 +58,7 @@ impl From<[u64; LANE_WORDS]> for Nine {
 }
 
 impl Nine {
-    // k: 0 (a) link, 1 (b) marks, 2 (c) directory, 3 (d) mark.
+    // k, as the stages of a vector count them: 0 (a) link, 1 (b) marks, 2 (c) directory, 3 (d) mark.
     fn check(self, k: u64, start: u32) -> Check {
         match k {
             0 => Check::Link,
