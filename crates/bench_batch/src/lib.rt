@@ -19,8 +19,8 @@ pub extern "C" fn grid_list(
     m: u32,
 ) -> u32 {
     let z = Terms {
-        p: p,
-        m: m,
+        p,
+        m,
         first: 7,
         step: 3,
     };

@@ -1,8 +1,6 @@
 // For the benchmark's C program: opens, operations of one process and reads, through open, begin and step.
 #![tactic(auto)]
 
-ghost use Rattle.std.specs.Prelude.{◌<◌, ◌≤◌};
-
 pub mod opens;
 pub mod reads;
 
@@ -13,38 +11,29 @@ use numbers::{Cell, Mark, Process, Terms};
 // No operation takes more steps.
 const MOST: u32 = 11;
 
-// An answer as one word: what it is in bits 40 and up, the operation's steps in bits 32 to 39, the value below.
-fn packed(what: u64, steps: u8, value: u32) -> u64 {
-    (what % 16) * 1099511627776 + (steps as u64) * 4294967296 + value as u64
+// An answer as one word, as the C program reads it: what it is in bits 40 and up, the operation's steps in bits 32 to 39, the value
+// below.
+fn packed(what: u8, steps: u8, value: u32) -> u64 {
+    (u64::from(what) << 40) | (u64::from(steps) << 32) | u64::from(value)
 }
 
+// No `From`: neither type is of this crate.
 pub fn word_of(a: Answer) -> u64 {
     match a {
         Answer::Begun => packed(1, 0, 0),
         Answer::Going => packed(2, 0, 0),
         Answer::Read(v, b, k) => packed(if b { 7 } else { 3 }, k, v),
         Answer::Written(k) => packed(4, k, 0),
-        Answer::Asked(b, k) => packed(5, k, b as u32),
+        Answer::Asked(b, k) => packed(5, k, u32::from(b)),
         Answer::Refused(r) => packed(6, 0, refusals::number(r)),
     }
 }
 
-// One turn more while the operation goes on; no more once it has ended.
-fn turns(k: u32, a: Answer) -> u32
-    requires { k < 11 }
-    ensures { (k < result) × (result ≤ 11) }
-{
-    match a {
-        Answer::Begun => k + 1,
-        Answer::Going => k + 1,
-        Answer::Read(_, _, _) => MOST,
-        Answer::Written(_) => MOST,
-        Answer::Asked(_, _) => MOST,
-        Answer::Refused(_) => MOST,
-    }
+fn goes_on(a: Answer) -> bool {
+    matches!(a, Answer::Begun | Answer::Going)
 }
 
-// The first `before` operations write; of the others kind 0 reads, 1 writes, any other asks.
+// The first `before` operations write; of the others kind 0 reads, 1 writes, any other asks, as the C program counts them.
 fn ask_of(v: u32, before: u32, kind: u32, i: u32) -> Ask {
     if v < before {
         return Ask::Write(Cell(i), v);
@@ -58,40 +47,33 @@ fn ask_of(v: u32, before: u32, kind: u32, i: u32) -> Ask {
 
 // The cell after i, of those below `cells`; after the last comes 0.
 fn next(i: u32, cells: u32) -> u32 {
-    if i < cells {
-        if 1 < cells - i { i + 1 } else { 0 }
-    } else {
-        0
-    }
+    if i < cells && 1 < cells - i { i + 1 } else { 0 }
 }
 
-pub fn put(words: &mut [u64], i: usize, w: u64) {
-    if i < words.len() {
-        words[i] = w;
-    }
-}
-
-// Process q begins a write and takes two steps of it.
+// Process q begins what is asked and takes n steps of it.
 fn begun(
     s: State,
     q: u32,
+    ask: Ask,
+    n: u32,
     readings: &mut [u32],
     links: &mut [u64],
     directory: &mut [u32],
     pool: &mut [Mark],
 ) -> State {
-    let b = grid::begin(s, Process(q), Ask::Write(Cell(0), q));
-    let c = grid::step(b.state, Process(q), readings, links, directory, pool);
-    let d = grid::step(c.state, Process(q), readings, links, directory, pool);
-    d.state
+    let mut t = grid::begin(s, Process(q), ask).state;
+    for _ in 0..n {
+        t = grid::step(t, Process(q), readings, links, directory, pool).state;
+    }
+    t
 }
 
 // The terms of a grid whose filling rule starts there.
 fn terms(p: u32, m: u32, first: u32) -> Terms {
     Terms {
-        p: p,
-        m: m,
-        first: first,
+        p,
+        m,
+        first,
         step: 3,
     }
 }
@@ -108,10 +90,9 @@ pub fn opened(
 ) -> State {
     let o = grid::open(terms(p, m, 7), readings, links, directory, pool);
     let mut s = o.state;
-    let mut j: u32 = 0;
-    while j < busy {
-        s = begun(s, j, readings, links, directory, pool);
-        j = j + 1;
+    for j in 0..busy {
+        let ask = Ask::Write(Cell(0), j);
+        s = begun(s, j, ask, 2, readings, links, directory, pool);
     }
     s
 }
@@ -136,24 +117,21 @@ pub extern "C" fn grid_operations(
     let mut s = opened(p, m, busy, readings, links, directory, pool);
     let mut value: u32 = 0;
     let mut cell: u32 = 0;
-    let mut i: usize = 0;
-    while i < outcomes.len() {
+    for outcome in outcomes.iter_mut() {
         let ask = ask_of(value, before, kind, cell);
-        let b = grid::begin(s, Process(q), ask);
-        s = b.state;
+        s = grid::begin(s, Process(q), ask).state;
         let mut word: u64 = 0;
-        let mut k: u32 = 0;
-        while k < MOST {
+        for _ in 0..MOST {
             let r = grid::step(s, Process(q), readings, links, directory, pool);
             s = r.state;
-            let a = r.answer;
-            word = word_of(a);
-            k = turns(k, a);
+            word = word_of(r.answer);
+            if !goes_on(r.answer) {
+                break;
+            }
         }
-        put(outcomes, i, word);
+        *outcome = word;
         cell = next(cell, cells);
-        value = std::num::wrapping_add_u32(value, 1);
-        i = i + 1;
+        value = value.wrapping_add(1);
     }
     s.top
 }

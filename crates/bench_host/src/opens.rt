@@ -1,4 +1,5 @@
-// Opening, by itself.
+// Opening, by itself. The benchmark takes the second loop's count from the first's. Each state has a variable in both (`t` and `s`):
+// without them the compiler makes other copies in one than in the other.
 use acts::Ask;
 use numbers::{Cell, Mark, Process};
 
@@ -15,13 +16,11 @@ pub extern "C" fn grid_opens(
     n: u32,
 ) -> u32 {
     let mut sum: u32 = 0;
-    let mut i: u32 = 0;
-    while i < n {
+    for i in 0..n {
         let o = grid::open(super::terms(p, m, i), readings, links, directory, pool);
         let b = grid::begin(o.state, Process(0), Ask::Read(Cell(0)));
         let s = b.state;
-        sum = std::num::wrapping_add_u32(sum, s.terms.first);
-        i = i + 1;
+        sum = sum.wrapping_add(s.terms.first);
     }
     sum
 }
@@ -40,12 +39,10 @@ pub extern "C" fn grid_begins(
     let o = grid::open(super::terms(p, m, 7), readings, links, directory, pool);
     let t = o.state;
     let mut sum: u32 = 0;
-    let mut i: u32 = 0;
-    while i < n {
+    for _ in 0..n {
         let b = grid::begin(t, Process(0), Ask::Read(Cell(0)));
         let s = b.state;
-        sum = std::num::wrapping_add_u32(sum, s.terms.first);
-        i = i + 1;
+        sum = sum.wrapping_add(s.terms.first);
     }
     sum
 }

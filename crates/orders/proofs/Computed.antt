@@ -7,7 +7,6 @@ use Rattle.refusals.specs.Orders.{Rule, orders}
 use Rattle.refusals.specs.Laws.{orders_then}
 use Rattle.lanes.specs.declared.State.{State}
 use Rattle.lanes.specs.Ranges.{lane_of}
-use Rattle.steps.specs.declared.Next.{Next}
 use Rattle.steps.specs.declared.Turn.{Turn}
 use Rattle.steps.specs.Memory.{Memory}
 use Rattle.acts.specs.declared.Acted.{Acted}

@@ -11,7 +11,6 @@ use Rattle.lanes.specs.Ranges.{lane_of, state_fits}
 use Rattle.steps.specs.declared.Turn.{Turn}
 use Rattle.steps.specs.Memory.{Memory}
 use Rattle.acts.specs.declared.Ask.{Ask}
-use Rattle.acts.specs.declared.Answer.TheVariants as Answer
 use Rattle.acts.specs.Calls as Grid
 use Rattle.summary.specs.Summary.{summary_refusals, summary_of}
 use Rattle.planners_text.specs.PlannersText as Text

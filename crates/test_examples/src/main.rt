@@ -1,138 +1,36 @@
 // The starred examples, run on the grid: what each says, and the shared word that each step touches.
 #![tactic(auto)]
 
+mod example;
 mod touch;
 
-use acts::{Answer, Ask, Stepped};
-use lanes::State;
-use numbers::{Cell, Mark, Place, Process, Terms};
-use steps::Word;
+use example::Example;
+use numbers::{Place, Process, Terms};
+use std::fmt::Display;
 
-fn say(rt: &impl Print, w: &[u8]) {
-    let _ = rt.write_all(w);
+// A write that fails is not told.
+fn say(rt: &impl Print, text: impl Display + Drop) {
+    let _ = rt.print(text);
 }
 
-fn say_first(rt: &impl Print, w: &[u8], end: usize) {
-    if end <= w.len() {
-        let _ = rt.write_all(&w[..end]);
-    }
+fn place(rt: &impl Print, example: u32, n: u64) {
+    let s = numbers::segment_of(Place(n));
+    let o = numbers::offset_of(Place(n));
+    say(
+        rt,
+        format_args!("{example} place {n}: segment {s} offset {o}\n"),
+    );
 }
 
-fn number(rt: &impl Print, n: u64) {
-    let mut digits = [0u8; 20];
-    let put = byte_lists::put_decimal(&mut digits, 0, n);
-    if let Some(end) = put {
-        say_first(rt, &digits, end);
-    }
-}
-
-fn place(rt: &impl Print, n: u64) {
-    say(rt, b"place ");
-    number(rt, n);
-    say(rt, b": segment ");
-    number(rt, numbers::segment_of(Place(n)) as u64);
-    say(rt, b" offset ");
-    number(rt, numbers::offset_of(Place(n)));
-    say(rt, b"\n");
-}
-
-fn pair(rt: &impl Print, w: u64) {
-    say(rt, b"(");
-    number(rt, numbers::process_of(w).0 as u64);
-    say(rt, b", ");
-    number(rt, numbers::place_of(w).0);
-    say(rt, b")");
-}
-
-fn named(rt: &impl Print, w: &[u8], n: u64) {
-    say(rt, w);
-    say(rt, b" ");
-    number(rt, n);
-    say(rt, b"\n");
-}
-
-// The word that a step touches.
-fn shown(rt: &impl Print, w: Word) {
-    match w {
-        Word::Reading(i) => named(rt, b"reading", i as u64),
-        Word::Link(i) => named(rt, b"link", i as u64),
-        Word::Directory(k) => named(rt, b"directory", k as u64),
-        Word::Pool(k) => named(rt, b"pool", k as u64),
-        Word::Marks(q) => named(rt, b"marks", q as u64),
-        Word::Top => say(rt, b"top\n"),
-    }
-}
-
-fn answered(rt: &impl Print, a: Answer) {
-    match a {
-        Answer::Begun => say(rt, b"begun\n"),
-        Answer::Going => say(rt, b"going\n"),
-        Answer::Read(v, _, _) => named(rt, b"read", v as u64),
-        Answer::Written(n) => named(rt, b"written", n as u64),
-        Answer::Asked(_, n) => named(rt, b"asked", n as u64),
-        Answer::Refused(r) => named(rt, b"refused", refusals::number(r) as u64),
-    }
-}
-
-// One step of process q, its k-th, with the word that it touches.
-fn traced(
-    rt: &impl Print,
-    s: State,
-    q: u32,
-    k: u32,
-    readings: &mut [u32],
-    links: &mut [u64],
-    directory: &mut [u32],
-    pool: &mut [Mark],
-) -> Stepped {
-    let at = acts::begins::lane_of(Process(q));
-    let l = s.lanes[at];
-    let o = l.op;
-    say(rt, b"  ");
-    number(rt, k as u64);
-    say(rt, b" ");
-    shown(rt, touch::touched(s.terms, Process(q), directory, o));
-    grid::step(s, Process(q), readings, links, directory, pool)
-}
-
-// n steps of process q, and the last one's answer.
-fn walk(
-    rt: &impl Print,
-    s: State,
-    q: u32,
-    n: u32,
-    readings: &mut [u32],
-    links: &mut [u64],
-    directory: &mut [u32],
-    pool: &mut [Mark],
-) -> State {
-    let mut t = s;
-    let mut last = Answer::Begun;
-    let mut i: u32 = 0;
-    while i < n {
-        i = i + 1;
-        let r = traced(rt, t, q, i, readings, links, directory, pool);
-        t = r.state;
-        last = r.answer;
-    }
-    answered(rt, last);
-    t
-}
-
-fn write(rt: &impl Print, s: State, q: u32, i: u32, v: u32) -> State {
-    say(rt, b"process ");
-    number(rt, q as u64);
-    say(rt, b" writes cell ");
-    number(rt, i as u64);
-    say(rt, b"\n");
-    let r = grid::begin(s, Process(q), Ask::Write(Cell(i), v));
-    r.state
+// A link's process and place.
+fn pair(w: u64) -> (u32, u64) {
+    (numbers::process_of(w).0, numbers::place_of(w).0)
 }
 
 fn fill_zero(p: u32, m: u32) -> Terms {
     Terms {
-        p: p,
-        m: m,
+        p,
+        m,
         first: 0,
         step: 0,
     }
@@ -140,149 +38,92 @@ fn fill_zero(p: u32, m: u32) -> Terms {
 
 // Examples 5 and 6: fill 0, p 1.
 fn alone(rt: &impl Print) {
-    let mut readings = [0u32; 2];
-    let mut links = [0u64; 2];
-    let mut directory = [0u32; 17];
-    let mut pool = [0u32; 10];
-    let o = grid::open(fill_zero(1, 2), &readings, &links, &directory, &pool);
-    let a = o.state;
-    say(rt, b"5 ");
-    let b = write(rt, a, 0, 0, 7);
-    let c = walk(
+    let mut e = Example {
+        state: grid::open(fill_zero(1, 2), &[0; 2], &[0; 2], &[0; 17], &[0; 10]).state,
+        readings: [0; 2],
+        links: [0; 2],
+        directory: [0; 17],
+        pool: [0; 10],
+    };
+    say(rt, "5 ");
+    e.write(rt, 0, 0, 7);
+    e.walk(rt, 0, 9);
+    let (q, n) = pair(e.links[0]);
+    let marks = e.state.lanes[0].marks;
+    say(
         rt,
-        b,
-        0,
-        9,
-        &mut readings,
-        &mut links,
-        &mut directory,
-        &mut pool,
+        format_args!("link 0 is ({q}, {n}), marks in force {marks}\n"),
     );
-    say(rt, b"link 0 is ");
-    pair(rt, links[0]);
-    let l = c.lanes[0];
-    named(rt, b", marks in force", l.marks as u64);
-    say(rt, b"6 ");
-    let d = write(rt, c, 0, 1, 8);
-    walk(
-        rt,
-        d,
-        0,
-        10,
-        &mut readings,
-        &mut links,
-        &mut directory,
-        &mut pool,
-    );
+    say(rt, "6 ");
+    e.write(rt, 0, 1, 8);
+    e.walk(rt, 0, 10);
 }
 
 fn refused_open(rt: &impl Print, p: u32, m: u32) {
-    let o = grid::open(
-        fill_zero(p, m),
-        &[0u32; 1],
-        &[0u64; 1],
-        &[0u32; 1],
-        &[0u32; 1],
-    );
-    say(rt, b"7 p ");
-    number(rt, p as u64);
-    say(rt, b" m ");
-    number(rt, m as u64);
-    let is = o.opening;
-    if let acts::Opening::Refused(r) = is {
-        named(rt, b": refused", refusals::number(r) as u64);
+    let o = grid::open(fill_zero(p, m), &[0; 1], &[0; 1], &[0; 1], &[0; 1]);
+    say(rt, format_args!("7 p {p} m {m}"));
+    if let acts::Opening::Refused(r) = o.opening {
+        let n = refusals::number(r);
+        say(rt, format_args!(": refused {n}\n"));
     }
 }
 
 // Example 8: step with short pool and process 16.
 fn short_pool(rt: &impl Print) {
-    let mut readings = [0u32; 1];
-    let mut links = [0u64; 1];
-    let mut directory = [0u32; 17];
-    let mut pool = [0u32; 5];
-    let o = grid::open(fill_zero(1, 1), &readings, &links, &directory, &[0u32; 6]);
-    let s = o.state;
+    let o = grid::open(fill_zero(1, 1), &[0; 1], &[0; 1], &[0; 17], &[0; 6]);
     let r = grid::step(
-        s,
+        o.state,
         Process(16),
-        &mut readings,
-        &mut links,
-        &mut directory,
-        &mut pool,
+        &mut [0; 1],
+        &mut [0; 1],
+        &mut [0; 17],
+        &mut [0; 5],
     );
-    say(rt, b"8 short pool, process 16: ");
-    let a = r.answer;
-    answered(rt, a);
-}
-
-// Process 0 writes cell 0, and halts before the swap of its write of cell 1;
-fn halted(
-    rt: &impl Print,
-    s: State,
-    readings: &mut [u32],
-    links: &mut [u64],
-    directory: &mut [u32],
-    pool: &mut [Mark],
-) -> State {
-    let a = write(rt, s, 0, 0, 7);
-    let b = walk(rt, a, 0, 9, readings, links, directory, pool);
-    let c = write(rt, b, 0, 1, 8);
-    walk(rt, c, 0, 9, readings, links, directory, pool)
-}
-
-// process 1 writes cell 1, and process 0 goes on.
-fn overtaken(
-    rt: &impl Print,
-    s: State,
-    readings: &mut [u32],
-    links: &mut [u64],
-    directory: &mut [u32],
-    pool: &mut [Mark],
-) -> State {
-    let a = write(rt, s, 1, 1, 9);
-    let b = walk(rt, a, 1, 10, readings, links, directory, pool);
-    say(rt, b"process 0 goes on\n");
-    walk(rt, b, 0, 2, readings, links, directory, pool)
+    say(rt, "8 short pool, process 16: ");
+    example::answered(rt, r.answer);
 }
 
 // Example 9: fill 0, p 2, m 2.
 fn race(rt: &impl Print) {
-    let mut readings = [0u32; 2];
-    let mut links = [0u64; 2];
-    let mut directory = [0u32; 34];
-    let mut pool = [0u32; 12];
-    let o = grid::open(fill_zero(2, 2), &readings, &links, &directory, &pool);
-    let a = o.state;
-    say(rt, b"9 ");
-    let b = halted(rt, a, &mut readings, &mut links, &mut directory, &mut pool);
-    let s = overtaken(rt, b, &mut readings, &mut links, &mut directory, &mut pool);
-    let l = s.lanes[0];
-    let m = s.lanes[1];
-    say(rt, b"marks in force ");
-    number(rt, l.marks as u64);
-    say(rt, b" and ");
-    number(rt, m.marks as u64);
-    named(rt, b"; drawn", s.top as u64);
+    let mut e = Example {
+        state: grid::open(fill_zero(2, 2), &[0; 2], &[0; 2], &[0; 34], &[0; 12]).state,
+        readings: [0; 2],
+        links: [0; 2],
+        directory: [0; 34],
+        pool: [0; 12],
+    };
+    say(rt, "9 ");
+    // process 0 writes cell 0, and halts before the swap of its write of cell 1;
+    e.write(rt, 0, 0, 7);
+    e.walk(rt, 0, 9);
+    e.write(rt, 0, 1, 8);
+    e.walk(rt, 0, 9);
+    // process 1 writes cell 1, and process 0 goes on
+    e.write(rt, 1, 1, 9);
+    e.walk(rt, 1, 10);
+    say(rt, "process 0 goes on\n");
+    e.walk(rt, 0, 2);
+    let l = e.state.lanes[0].marks;
+    let m = e.state.lanes[1].marks;
+    let top = e.state.top;
+    say(
+        rt,
+        format_args!("marks in force {l} and {m}; drawn {top}\n"),
+    );
 }
 
 fn main(rt: HostRuntime) {
-    say(&rt, b"1 ");
-    place(&rt, 1);
-    say(&rt, b"1 ");
-    place(&rt, 2);
-    say(&rt, b"1 ");
-    place(&rt, 5);
-    say(&rt, b"2 ");
-    place(&rt, 131072);
-    say(&rt, b"3 link 0: ");
-    pair(&rt, 0);
-    say(&rt, b"\n3 all one bits: process ");
-    number(&rt, numbers::process_of(18446744073709551615).0 as u64);
-    say(&rt, b"\n4 f(0) ");
-    number(&rt, numbers::fill(4294967295, 2, 0) as u64);
-    say(&rt, b" f(1) ");
-    number(&rt, numbers::fill(4294967295, 2, 1) as u64);
-    say(&rt, b"\n");
+    place(&rt, 1, 1);
+    place(&rt, 1, 2);
+    place(&rt, 1, 5);
+    place(&rt, 2, 131072);
+    let (q, n) = pair(0);
+    say(&rt, format_args!("3 link 0: ({q}, {n})\n"));
+    let (q, _) = pair(u64::MAX);
+    say(&rt, format_args!("3 all one bits: process {q}\n"));
+    let zero = numbers::fill(4294967295, 2, 0);
+    let one = numbers::fill(4294967295, 2, 1);
+    say(&rt, format_args!("4 f(0) {zero} f(1) {one}\n"));
     alone(&rt);
     refused_open(&rt, 17, 0);
     refused_open(&rt, 16, 65537);

@@ -37,11 +37,11 @@ fn touched_marking(z: Terms, q: Process, directory: &[u32], i: Cell, k: Marking)
             q,
             numbers::segment_of(n),
         )),
-        Marking::Tombstone(_, n) => pool_word(steps::look::start_of(directory, q, n), n),
-        Marking::Mark(_, n) => pool_word(steps::look::start_of(directory, q, n), n),
-        Marking::Force(_, _) => Word::Marks(q.0),
+        Marking::Tombstone(_, n) | Marking::Mark(_, n) => {
+            pool_word(steps::look::start_of(directory, q, n), n)
+        }
+        Marking::Force(_, _) | Marking::TakeBack(_) => Word::Marks(q.0),
         Marking::Swap(_, _) => Word::Link(numbers::index_of(z, i)),
-        Marking::TakeBack(_) => Word::Marks(q.0),
     }
 }
 
@@ -51,11 +51,8 @@ pub fn touched(z: Terms, q: Process, directory: &[u32], o: Op) -> Word
 {
     match o {
         Op::Idle => Word::Top,
-        Op::Read(i, c) => touched_in(z, i, c),
-        Op::Reading(i) => Word::Reading(numbers::index_of(z, i)),
-        Op::Asked(i, c) => touched_in(z, i, c),
-        Op::Store(i, _) => Word::Reading(numbers::index_of(z, i)),
-        Op::Write(i, c) => touched_in(z, i, c),
+        Op::Read(i, c) | Op::Asked(i, c) | Op::Write(i, c) => touched_in(z, i, c),
+        Op::Reading(i) | Op::Store(i, _) => Word::Reading(numbers::index_of(z, i)),
         Op::Marking(i, k) => touched_marking(z, q, directory, i, k),
     }
 }

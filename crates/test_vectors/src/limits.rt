@@ -1,20 +1,15 @@
 // What a vector may hold, and how much input is taken. The memories are those of a grid of 65,536 cells, whatever the largest grid is.
 use numbers::{CELL_MARKS, LANES, PROCESS_MARKS, SEGMENTS};
 
-// A vector's call and state.
-pub const HEAD: usize = 154;
+// The words of a vector's call with its arguments, of a lane, and of the call and the state: the terms, the top and the lanes.
+pub const CALL: usize = 5;
 
-// The numbers of its words: below 2^8, 2^16, 2^32 and 2^33.
-pub const LIMIT8: u64 = 256;
+pub const LANE_WORDS: usize = 9;
 
-pub const LIMIT16: u64 = 65536;
+pub const HEAD: usize = CALL + 5 + LANE_WORDS * LANES;
 
-pub const LIMIT32: u64 = 4294967296;
-
-pub const LIMIT33: u64 = 8589934592;
-
-// Its stages.
-pub const STAGES: u64 = 22;
+// The last stage of a lane.
+pub const LAST_STAGE: u64 = 21;
 
 // The memories, at the most: readings and links, directory, pool.
 pub const CELL_WORDS: usize = 65536;
@@ -28,3 +23,6 @@ pub const PAGE: usize = 4096;
 
 // The input's words.
 pub const INPUT: usize = 131072;
+
+// How many words of the input are read at the most: past its words, 65,536 bytes more show that it is too long.
+pub const READ: usize = INPUT + 8192;

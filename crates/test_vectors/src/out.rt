@@ -1,38 +1,52 @@
 // The output, kept in a buffer and written when it is full.
+use std::fmt;
 
-// Writes the first `at` bytes. A write that fails is not told.
-pub fn flush(rt: &impl Print, out: &[u8], at: usize) {
-    if at <= out.len() {
-        let _ = rt.write_all(&out[..at]);
-    }
+// Bytes that are kept at the most. The buffer is fixed, since a project rule allows no heap.
+const ROOM: usize = 65536;
+
+#[derive(Drop)]
+pub(crate) struct Out<'a, P> {
+    rt: &'a P,
+    kept: [u8; ROOM],
+    len: usize,
 }
 
-pub fn bytes(rt: &impl Print, out: &mut [u8], at: usize, w: &[u8]) -> usize {
-    match byte_lists::put_bytes(out, at, w) {
-        Some(e) => e,
-        None => {
-            flush(rt, out, at);
-            byte_lists::put_bytes(out, 0, w).unwrap_or(0)
+impl<'a, P: Print> Out<'a, P> {
+    pub(crate) fn new(rt: &'a P) -> Self {
+        Out {
+            rt,
+            kept: [0; ROOM],
+            len: 0,
         }
     }
-}
 
-pub fn number(rt: &impl Print, out: &mut [u8], at: usize, n: u64) -> usize {
-    match byte_lists::put_decimal(out, at, n) {
-        Some(e) => e,
-        None => {
-            flush(rt, out, at);
-            byte_lists::put_decimal(out, 0, n).unwrap_or(0)
+    // Writes what is kept. A write that fails is not told.
+    pub(crate) fn flush(&mut self) {
+        if let Some(kept) = self.kept.get(..self.len) {
+            let _ = self.rt.write_all(kept);
         }
+        self.len = 0;
+    }
+
+    fn keep(&mut self, bytes: &[u8]) -> Option<()> {
+        let (to, _) = self
+            .kept
+            .get_mut(self.len..)?
+            .split_at_mut_checked(bytes.len())?;
+        to.copy_from_slice(bytes);
+        self.len += bytes.len();
+        Some(())
     }
 }
 
-// A space and a number.
-pub fn next_number(rt: &impl Print, out: &mut [u8], at: usize, n: u64) -> usize {
-    let e = bytes(rt, out, at, b" ");
-    number(rt, out, e, n)
-}
-
-pub fn newline(rt: &impl Print, out: &mut [u8], at: usize) -> usize {
-    bytes(rt, out, at, b"\n")
+impl<P: Print> fmt::Write for Out<'_, P> {
+    fn write_str(&mut self, s: &str) -> fmt::Result {
+        let bytes = s.as_bytes();
+        if self.keep(bytes).is_none() {
+            self.flush();
+            // no text is longer than the room
+            let _ = self.keep(bytes);
+        }
+        Ok(())
+    }
 }
