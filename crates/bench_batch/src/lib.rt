@@ -2,6 +2,7 @@
 #![tactic(auto)]
 
 use numbers::{Mark, Terms};
+use steps::LentMut;
 
 // Opens a grid, and makes the calls of a list; an answer goes into a word for each. Gives the pool's top.
 #[unsafe(no_mangle)]
@@ -24,9 +25,13 @@ pub extern "C" fn grid_list(
         first: 7,
         step: 3,
     };
-    let o = grid::open(z, readings, links, directory, pool);
-    let s = batch::run(
-        o.state, kinds, processes, cells, values, answers, readings, links, directory, pool,
-    );
+    let mut lent = LentMut {
+        readings,
+        links,
+        directory,
+        pool,
+    };
+    let o = grid::open(z, lent.as_ref());
+    let s = batch::run(o.state, kinds, processes, cells, values, answers, &mut lent);
     s.top
 }

@@ -7,6 +7,8 @@ pub mod reads;
 use acts::{Answer, Ask};
 use lanes::State;
 use numbers::{Cell, Mark, Process, Terms};
+use refusals::Refusal;
+use steps::LentMut;
 
 // No operation takes more steps.
 const MOST: u32 = 11;
@@ -18,19 +20,19 @@ fn packed(what: u8, steps: u8, value: u32) -> u64 {
 }
 
 // No `From`: neither type is of this crate.
-pub fn word_of(a: Answer) -> u64 {
+pub fn word_of(a: Result<Answer, Refusal>) -> u64 {
     match a {
-        Answer::Begun => packed(1, 0, 0),
-        Answer::Going => packed(2, 0, 0),
-        Answer::Read(v, b, k) => packed(if b { 7 } else { 3 }, k, v),
-        Answer::Written(k) => packed(4, k, 0),
-        Answer::Asked(b, k) => packed(5, k, u32::from(b)),
-        Answer::Refused(r) => packed(6, 0, refusals::number(r)),
+        Ok(Answer::Begun) => packed(1, 0, 0),
+        Ok(Answer::Going) => packed(2, 0, 0),
+        Ok(Answer::Read(v, b, k)) => packed(if b { 7 } else { 3 }, k, v),
+        Ok(Answer::Written(k)) => packed(4, k, 0),
+        Ok(Answer::Asked(b, k)) => packed(5, k, u32::from(b)),
+        Err(r) => packed(6, 0, refusals::number(r)),
     }
 }
 
-fn goes_on(a: Answer) -> bool {
-    matches!(a, Answer::Begun | Answer::Going)
+fn goes_on(a: Result<Answer, Refusal>) -> bool {
+    matches!(a, Ok(Answer::Begun | Answer::Going))
 }
 
 // The first `before` operations write; of the others kind 0 reads, 1 writes, any other asks, as the C program counts them.
@@ -51,19 +53,10 @@ fn next(i: u32, cells: u32) -> u32 {
 }
 
 // Process q begins what is asked and takes n steps of it.
-fn begun(
-    s: State,
-    q: u32,
-    ask: Ask,
-    n: u32,
-    readings: &mut [u32],
-    links: &mut [u64],
-    directory: &mut [u32],
-    pool: &mut [Mark],
-) -> State {
+fn begun(s: State, q: u32, ask: Ask, n: u32, lent: &mut LentMut<'_>) -> State {
     let mut t = grid::begin(s, Process(q), ask).state;
     for _ in 0..n {
-        t = grid::step(t, Process(q), readings, links, directory, pool).state;
+        t = grid::step(t, Process(q), lent).state;
     }
     t
 }
@@ -79,20 +72,12 @@ fn terms(p: u32, m: u32, first: u32) -> Terms {
 }
 
 // An open grid in which each process below `busy` is in the middle of a write.
-pub fn opened(
-    p: u32,
-    m: u32,
-    busy: u32,
-    readings: &mut [u32],
-    links: &mut [u64],
-    directory: &mut [u32],
-    pool: &mut [Mark],
-) -> State {
-    let o = grid::open(terms(p, m, 7), readings, links, directory, pool);
+pub fn opened(p: u32, m: u32, busy: u32, lent: &mut LentMut<'_>) -> State {
+    let o = grid::open(terms(p, m, 7), lent.as_ref());
     let mut s = o.state;
     for j in 0..busy {
         let ask = Ask::Write(Cell(0), j);
-        s = begun(s, j, ask, 2, readings, links, directory, pool);
+        s = begun(s, j, ask, 2, lent);
     }
     s
 }
@@ -114,7 +99,13 @@ pub extern "C" fn grid_operations(
     kind: u32,
     cells: u32,
 ) -> u32 {
-    let mut s = opened(p, m, busy, readings, links, directory, pool);
+    let mut lent = LentMut {
+        readings,
+        links,
+        directory,
+        pool,
+    };
+    let mut s = opened(p, m, busy, &mut lent);
     let mut value: u32 = 0;
     let mut cell: u32 = 0;
     for outcome in outcomes.iter_mut() {
@@ -122,7 +113,7 @@ pub extern "C" fn grid_operations(
         s = grid::begin(s, Process(q), ask).state;
         let mut word: u64 = 0;
         for _ in 0..MOST {
-            let r = grid::step(s, Process(q), readings, links, directory, pool);
+            let r = grid::step(s, Process(q), &mut lent);
             s = r.state;
             word = word_of(r.answer);
             if !goes_on(r.answer) {

@@ -2,6 +2,7 @@
 // without them the compiler makes other copies in one than in the other.
 use acts::Ask;
 use numbers::{Cell, Mark, Process};
+use steps::Lent;
 
 // Opens n grids, and begins a read in each: the state that open gives is then made in full, and not only what is looked at.
 // Gives a sum over the states.
@@ -15,9 +16,15 @@ pub extern "C" fn grid_opens(
     m: u32,
     n: u32,
 ) -> u32 {
+    let lent = Lent {
+        readings,
+        links,
+        directory,
+        pool,
+    };
     let mut sum: u32 = 0;
     for i in 0..n {
-        let o = grid::open(super::terms(p, m, i), readings, links, directory, pool);
+        let o = grid::open(super::terms(p, m, i), lent);
         let b = grid::begin(o.state, Process(0), Ask::Read(Cell(0)));
         let s = b.state;
         sum = sum.wrapping_add(s.terms.first);
@@ -36,7 +43,13 @@ pub extern "C" fn grid_begins(
     m: u32,
     n: u32,
 ) -> u32 {
-    let o = grid::open(super::terms(p, m, 7), readings, links, directory, pool);
+    let lent = Lent {
+        readings,
+        links,
+        directory,
+        pool,
+    };
+    let o = grid::open(super::terms(p, m, 7), lent);
     let t = o.state;
     let mut sum: u32 = 0;
     for _ in 0..n {
