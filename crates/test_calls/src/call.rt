@@ -1,12 +1,11 @@
 // The call itself, through the public functions of the grid, of the hour summary and of the planners' text.
-use acts::{Ask, Opening};
+use acts::Ask;
 use lanes::State;
-use numbers::{Cell, Mark, Process, Terms};
-use planners_text::Wrote;
+use numbers::{Cell, Process, Terms};
 use refusals::Refusal;
 use std::fmt;
 use std::fmt::Write;
-use summary::Summary;
+use steps::LentMut;
 use test_vectors::fault::Fault;
 use test_vectors::limits::{CALL, PAGE};
 use test_vectors::memories::Fills;
@@ -66,37 +65,29 @@ impl Call {
     fn made(
         self,
         s: State,
-        readings: &mut [u32],
-        links: &mut [u64],
-        directory: &mut [u32],
-        pool: &mut [Mark],
+        lent: &mut LentMut<'_>,
         page: &mut [u8],
     ) -> (State, Result<Said, Refusal>) {
         match self {
             Call::Open(z) => {
-                let o = grid::open(z, readings, links, directory, pool);
-                match o.opening {
-                    Opening::Open => (o.state, Ok(Said::Opened)),
-                    Opening::Refused(r) => (o.state, Err(r)),
-                }
+                let o = grid::open(z, lent.as_ref());
+                (o.state, o.opening.map(|()| Said::Opened))
             }
             Call::Begin(q, ask) => {
                 let b = grid::begin(s, q, ask);
-                (b.state, Ok(Said::Told(b.answer)))
+                (b.state, b.answer.map(Said::Told))
             }
             Call::Step(q) => {
-                let b = grid::step(s, q, readings, links, directory, pool);
-                (b.state, Ok(Said::Told(b.answer)))
+                let b = grid::step(s, q, lent);
+                (b.state, b.answer.map(Said::Told))
             }
-            Call::Hour(h) => match summary::hour_summary(s, h, readings, links, directory, pool) {
-                Summary::Of(hour) => (s, Ok(Said::Hour(hour))),
-                Summary::Refused(r) => (s, Err(r)),
-            },
+            Call::Hour(h) => {
+                let hour = summary::hour_summary(s, h, lent.as_ref());
+                (s, hour.map(Said::Hour))
+            }
             Call::Text(_, _) => {
-                match planners_text::write_text(s, readings, links, directory, pool, page) {
-                    Wrote::Bytes(n) => (s, Ok(Said::Text(n))),
-                    Wrote::Refused(r) => (s, Err(r)),
-                }
+                let wrote = planners_text::write_text(s, lent.as_ref(), page);
+                (s, wrote.map(Said::Text))
             }
         }
     }
@@ -104,18 +95,15 @@ impl Call {
     fn shown<W: Write>(
         self,
         s: State,
-        readings: &mut [u32],
-        links: &mut [u64],
-        directory: &mut [u32],
-        pool: &mut [Mark],
+        lent: &mut LentMut<'_>,
         fills: Fills,
         page: &mut [u8],
         fill: u8,
         out: &mut W,
     ) -> fmt::Result {
-        let (state, said) = self.made(s, readings, links, directory, pool, page);
+        let (state, said) = self.made(s, lent, page);
         show::answered(out, &state, said)?;
-        show::memories(out, fills, readings, links, directory, pool)?;
+        show::memories(out, fills, lent.as_ref())?;
         show::memory(out, "buffer", page, fill)
     }
 }
@@ -124,10 +112,7 @@ impl run::Call for Call {
     fn make<W: Write>(
         self,
         state: State,
-        readings: &mut [u32],
-        links: &mut [u64],
-        directory: &mut [u32],
-        pool: &mut [Mark],
+        lent: &mut LentMut<'_>,
         fills: Fills,
         _rest: &mut Rest<'_>,
         out: &mut W,
@@ -139,9 +124,7 @@ impl run::Call for Call {
         let mut page = [fill; PAGE];
         let page = page.get_mut(..room).ok_or(Fault::Length)?;
         // the output keeps all that is written, so that it never fails
-        let _ = self.shown(
-            state, readings, links, directory, pool, fills, page, fill, out,
-        );
+        let _ = self.shown(state, lent, fills, page, fill, out);
         Ok(())
     }
 }

@@ -2,9 +2,10 @@
 use super::{say, touch};
 use acts::{Answer, Ask};
 use lanes::State;
-use numbers::{Cell, Mark, Process};
+use numbers::{Cell, Mark, Process, Terms};
+use refusals::Refusal;
 use std::fmt;
-use steps::Word;
+use steps::{Lent, LentMut, Word};
 
 // A grid of M cells, whose directory and pool have D and P words.
 #[derive(Clone, Copy)]
@@ -33,14 +34,14 @@ impl fmt::Display for Touched {
     }
 }
 
-pub fn answered(rt: &impl Print, a: Answer) {
+pub fn answered(rt: &impl Print, a: Result<Answer, Refusal>) {
     match a {
-        Answer::Begun => say(rt, "begun\n"),
-        Answer::Going => say(rt, "going\n"),
-        Answer::Read(v, _, _) => say(rt, format_args!("read {v}\n")),
-        Answer::Written(n) => say(rt, format_args!("written {n}\n")),
-        Answer::Asked(_, n) => say(rt, format_args!("asked {n}\n")),
-        Answer::Refused(r) => {
+        Ok(Answer::Begun) => say(rt, "begun\n"),
+        Ok(Answer::Going) => say(rt, "going\n"),
+        Ok(Answer::Read(v, _, _)) => say(rt, format_args!("read {v}\n")),
+        Ok(Answer::Written(n)) => say(rt, format_args!("written {n}\n")),
+        Ok(Answer::Asked(_, n)) => say(rt, format_args!("asked {n}\n")),
+        Err(r) => {
             let n = refusals::number(r);
             say(rt, format_args!("refused {n}\n"))
         }
@@ -48,6 +49,27 @@ pub fn answered(rt: &impl Print, a: Answer) {
 }
 
 impl<const M: usize, const D: usize, const P: usize> Example<M, D, P> {
+    // A grid of these terms, opened in memories of zeros.
+    pub fn opened(z: Terms) -> Self {
+        let readings = [0; M];
+        let links = [0; M];
+        let directory = [0; D];
+        let pool = [0; P];
+        let lent = Lent {
+            readings: &readings,
+            links: &links,
+            directory: &directory,
+            pool: &pool,
+        };
+        Example {
+            state: grid::open(z, lent).state,
+            readings,
+            links,
+            directory,
+            pool,
+        }
+    }
+
     // Process q begins to write v to cell i.
     pub fn write(&mut self, rt: &impl Print, q: u32, i: u32, v: u32) {
         say(rt, format_args!("process {q} writes cell {i}\n"));
@@ -55,25 +77,24 @@ impl<const M: usize, const D: usize, const P: usize> Example<M, D, P> {
     }
 
     // One step of process q, its k-th, with the word that it touches.
-    fn traced(&mut self, rt: &impl Print, q: u32, k: u32) -> Answer {
+    fn traced(&mut self, rt: &impl Print, q: u32, k: u32) -> Result<Answer, Refusal> {
         let op = self.state.lanes[acts::begins::lane_of(Process(q))].op;
         let word = Touched(touch::touched(self.state.terms, Process(q), &self.directory, op));
         say(rt, format_args!("  {k} {word}\n"));
-        let r = grid::step(
-            self.state,
-            Process(q),
-            &mut self.readings,
-            &mut self.links,
-            &mut self.directory,
-            &mut self.pool,
-        );
+        let mut lent = LentMut {
+            readings: &mut self.readings,
+            links: &mut self.links,
+            directory: &mut self.directory,
+            pool: &mut self.pool,
+        };
+        let r = grid::step(self.state, Process(q), &mut lent);
         self.state = r.state;
         r.answer
     }
 
     // n steps of process q, and the last one's answer.
     pub fn walk(&mut self, rt: &impl Print, q: u32, n: u32) {
-        let mut last = Answer::Begun;
+        let mut last = Ok(Answer::Begun);
         for k in 1..=n {
             last = self.traced(rt, q, k);
         }

@@ -7,6 +7,7 @@ mod touch;
 use example::Example;
 use numbers::{Place, Process, Terms};
 use std::fmt::Display;
+use steps::{Lent, LentMut};
 
 // A write that fails is not told.
 fn say(rt: &impl Print, text: impl Display + Drop) {
@@ -38,13 +39,7 @@ fn fill_zero(p: u32, m: u32) -> Terms {
 
 // Examples 5 and 6: fill 0, p 1.
 fn alone(rt: &impl Print) {
-    let mut e = Example {
-        state: grid::open(fill_zero(1, 2), &[0; 2], &[0; 2], &[0; 17], &[0; 10]).state,
-        readings: [0; 2],
-        links: [0; 2],
-        directory: [0; 17],
-        pool: [0; 10],
-    };
+    let mut e = Example::<2, 17, 10>::opened(fill_zero(1, 2));
     say(rt, "5 ");
     e.write(rt, 0, 0, 7);
     e.walk(rt, 0, 9);
@@ -60,9 +55,15 @@ fn alone(rt: &impl Print) {
 }
 
 fn refused_open(rt: &impl Print, p: u32, m: u32) {
-    let o = grid::open(fill_zero(p, m), &[0; 1], &[0; 1], &[0; 1], &[0; 1]);
+    let lent = Lent {
+        readings: &[0; 1],
+        links: &[0; 1],
+        directory: &[0; 1],
+        pool: &[0; 1],
+    };
+    let o = grid::open(fill_zero(p, m), lent);
     say(rt, format_args!("7 p {p} m {m}"));
-    if let acts::Opening::Refused(r) = o.opening {
+    if let Err(r) = o.opening {
         let n = refusals::number(r);
         say(rt, format_args!(": refused {n}\n"));
     }
@@ -70,28 +71,21 @@ fn refused_open(rt: &impl Print, p: u32, m: u32) {
 
 // Example 8: step with short pool and process 16.
 fn short_pool(rt: &impl Print) {
-    let o = grid::open(fill_zero(1, 1), &[0; 1], &[0; 1], &[0; 17], &[0; 6]);
-    let r = grid::step(
-        o.state,
-        Process(16),
-        &mut [0; 1],
-        &mut [0; 1],
-        &mut [0; 17],
-        &mut [0; 5],
-    );
+    let e = Example::<1, 17, 6>::opened(fill_zero(1, 1));
+    let mut lent = LentMut {
+        readings: &mut [0; 1],
+        links: &mut [0; 1],
+        directory: &mut [0; 17],
+        pool: &mut [0; 5],
+    };
+    let r = grid::step(e.state, Process(16), &mut lent);
     say(rt, "8 short pool, process 16: ");
     example::answered(rt, r.answer);
 }
 
 // Example 9: fill 0, p 2, m 2.
 fn race(rt: &impl Print) {
-    let mut e = Example {
-        state: grid::open(fill_zero(2, 2), &[0; 2], &[0; 2], &[0; 34], &[0; 12]).state,
-        readings: [0; 2],
-        links: [0; 2],
-        directory: [0; 34],
-        pool: [0; 12],
-    };
+    let mut e = Example::<2, 34, 12>::opened(fill_zero(2, 2));
     say(rt, "9 ");
     // process 0 writes cell 0, and halts before the swap of its write of cell 1;
     e.write(rt, 0, 0, 7);

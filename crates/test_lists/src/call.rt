@@ -2,12 +2,11 @@
 use super::lists;
 use super::lists::{LAST, LIST, Lists};
 use lanes::State;
-use numbers::Mark;
 use qhs::Header;
-use qhs_writer::Wrote;
 use refusals::Refusal;
 use std::fmt;
 use std::fmt::Write;
+use steps::LentMut;
 use test_vectors::fault::Fault;
 use test_vectors::limits::CALL;
 use test_vectors::memories::Fills;
@@ -48,15 +47,7 @@ fn low16(w: u32) -> u16 {
     (w & 0xffff) as u16
 }
 
-fn batch(
-    s: State,
-    readings: &mut [u32],
-    links: &mut [u64],
-    directory: &mut [u32],
-    pool: &mut [Mark],
-    lists: Lists<'_>,
-    answers: &mut [u64],
-) -> State {
+fn batch(s: State, lent: &mut LentMut<'_>, lists: Lists<'_>, answers: &mut [u64]) -> State {
     let mut kinds = [0u8; LIST];
     batch::run(
         s,
@@ -65,10 +56,7 @@ fn batch(
         lists.cells,
         lists.values,
         answers,
-        readings,
-        links,
-        directory,
-        pool,
+        lent,
     )
 }
 
@@ -88,20 +76,14 @@ fn file(h: Header, lists: Lists<'_>, words: &mut [u64]) -> Result<Said, Refusal>
         buffer,
     );
     lists::turned(buffer, words, u64::from);
-    match wrote {
-        Wrote::Bytes(n) => Ok(Said::File(n)),
-        Wrote::Refused(r) => Err(r),
-    }
+    wrote.map(Said::File)
 }
 
 impl Call {
     fn shown<W: Write>(
         self,
         s: State,
-        readings: &mut [u32],
-        links: &mut [u64],
-        directory: &mut [u32],
-        pool: &mut [Mark],
+        lent: &mut LentMut<'_>,
         fills: Fills,
         lists: Lists<'_>,
         last: &mut [u64],
@@ -110,7 +92,7 @@ impl Call {
     ) -> fmt::Result {
         let (state, said, name) = match self {
             Call::Batch => {
-                let t = batch(s, readings, links, directory, pool, lists, last);
+                let t = batch(s, lent, lists, last);
                 (t, Ok(Said::Batch), "answers")
             }
             Call::File(p, m, first, step) => {
@@ -126,7 +108,7 @@ impl Call {
             }
         };
         show::answered(out, &state, said)?;
-        show::memories(out, fills, readings, links, directory, pool)?;
+        show::memories(out, fills, lent.as_ref())?;
         show::memory(out, name, last, fill)
     }
 }
@@ -135,10 +117,7 @@ impl run::Call for Call {
     fn make<W: Write>(
         self,
         state: State,
-        readings: &mut [u32],
-        links: &mut [u64],
-        directory: &mut [u32],
-        pool: &mut [Mark],
+        lent: &mut LentMut<'_>,
         fills: Fills,
         rest: &mut Rest<'_>,
         out: &mut W,
@@ -156,9 +135,7 @@ impl run::Call for Call {
         };
         let (last, fill) = memories::lend(rest, &mut last)?;
         // the output keeps all that is written, so that it never fails
-        let _ = self.shown(
-            state, readings, links, directory, pool, fills, lists, last, fill, out,
-        );
+        let _ = self.shown(state, lent, fills, lists, last, fill, out);
         Ok(())
     }
 }

@@ -13,6 +13,7 @@ use numbers::{LANES, Mark, Terms};
 use std::fmt::Write;
 use std::io;
 use std::io::Read;
+use steps::LentMut;
 
 // The calls of a program, as a vector's first words ask for them.
 pub trait Call: TryFrom<[u64; CALL], Error = Fault> + Copy {
@@ -20,10 +21,7 @@ pub trait Call: TryFrom<[u64; CALL], Error = Fault> + Copy {
     fn make<W: Write>(
         self,
         state: State,
-        readings: &mut [u32],
-        links: &mut [u64],
-        directory: &mut [u32],
-        pool: &mut [Mark],
+        lent: &mut LentMut<'_>,
         fills: Fills,
         rest: &mut Rest<'_>,
         out: &mut W,
@@ -97,7 +95,13 @@ fn one<C: Call, W: Write>(
         directory: of_directory,
         pool: of_pool,
     };
-    call.make(state, readings, links, directory, pool, fills, rest, out)
+    let mut lent = LentMut {
+        readings,
+        links,
+        directory,
+        pool,
+    };
+    call.make(state, &mut lent, fills, rest, out)
 }
 
 // Every vector's seven lines, or those up to the first damaged one and then why. Where the input's last word is cut, so is the last vector.

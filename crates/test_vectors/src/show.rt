@@ -3,10 +3,10 @@ use super::memories::Fills;
 use super::nine::Nine;
 use acts::Answer;
 use lanes::State;
-use numbers::Mark;
 use refusals::Refusal;
 use std::fmt;
 use std::fmt::Write;
+use steps::Lent;
 use summary::Hour;
 
 // What a call answers that is not refused, of whatever kind it is.
@@ -29,7 +29,6 @@ fn told<W: Write>(f: &mut fmt::Formatter<W>, a: Answer) -> fmt::Result {
         Answer::Read(v, b, n) => write!(f, "read {v} {} {n}", u8::from(b)),
         Answer::Written(n) => write!(f, "written {n}"),
         Answer::Asked(b, n) => write!(f, "asked {} {n}", u8::from(b)),
-        Answer::Refused(r) => write!(f, "refused {}", refusals::number(r)),
     }
 }
 
@@ -87,16 +86,9 @@ pub fn memory<W: Write, T: Copy + Into<u64>>(
 }
 
 // The lines of the four memories.
-pub fn memories<W: Write>(
-    out: &mut W,
-    fills: Fills,
-    readings: &[u32],
-    links: &[u64],
-    directory: &[u32],
-    pool: &[Mark],
-) -> fmt::Result {
-    memory(out, "readings", readings, fills.readings)?;
-    memory(out, "links", links, fills.links)?;
-    memory(out, "directory", directory, fills.directory)?;
-    memory(out, "pool", pool, fills.pool)
+pub fn memories<W: Write>(out: &mut W, fills: Fills, lent: Lent<'_>) -> fmt::Result {
+    memory(out, "readings", lent.readings, fills.readings)?;
+    memory(out, "links", lent.links, fills.links)?;
+    memory(out, "directory", lent.directory, fills.directory)?;
+    memory(out, "pool", lent.pool, fills.pool)
 }
