@@ -12,7 +12,6 @@ use Rattle.steps.specs.declared.Next.{Next}
 use Rattle.steps.specs.Memory.{Memory}
 use Rattle.steps.specs.Changes.{lane_after, top_after}
 use Rattle.acts.specs.declared.Ask.{Ask}
-use Rattle.acts.specs.declared.Answer.TheVariants as Answer
 use Rattle.acts.specs.declared.Stepped.{Stepped}
 use Rattle.acts.specs.declared.Opened.{Opened}
 use Rattle.acts.specs.Calls as Calls

@@ -12,14 +12,13 @@ use Rattle.lanes.specs.declared.Op.{Op}
 use Rattle.lanes.specs.declared.Lane.{Lane}
 use Rattle.lanes.specs.declared.State.{State}
 use Rattle.lanes.specs.Ranges.{lane_of, state_fits}
-use Rattle.steps.specs.declared.Next.{Next}
 use Rattle.acts.specs.declared.Acted.{Acted}
 use Rattle.acts.specs.declared.Answer.{Answer}
 use Rattle.acts.specs.Calls.{Opening}
 use Rattle.acts.specs.Calls.{Verdict}
 use Rattle.acts.specs.Settled.{put_back}
 use Rattle.acts.specs.Calls.{open_of, begin_of, step_of, opening_of, opened_as, refused_as, with_op, begin_refusals, cell_of, op_of, begun_of, stepped_as}
-use Rattle.acts.specs.Calls.{answer_of, verdict_of, effect_of, outcome, outcome_as, turn_in, Outcome}
+use Rattle.acts.specs.Calls.{verdict_of, effect_of, outcome, outcome_as, turn_in, Outcome}
 use Rattle.claims.specs.Claims.{OneOpening, OneBeginning, OneStep, RefusedOpen, ClosedBegin, ClosedStep, RefusedBegin, RefusedStep}
 use Rattle.claims.specs.Claims.{closed}
 

@@ -23,7 +23,7 @@ use Rattle.play.specs.Play.{filled, ask_of, call_of, calls, after, lines_to, sch
 use Rattle.play.specs.Fold.{after_calls_lem, answer_call}
 use Rattle.play.proofs.Opens as Opens
 use Rattle.sheet.specs.Sheet.{shown, shown_of, left, sheet_as, sheet_of}
-use Rattle.demands.specs.Types.{Refusal, Terms, State, Memory, Answer, Response}
+use Rattle.demands.specs.Types.{Refusal, Terms, State, Memory}
 use Rattle.demands.specs.Kinds.{writing}
 use Rattle.demands.specs.Book.{Book, Run, start}
 use Rattle.demands.specs.Demand1.{Said, refused, begins, steps, said}

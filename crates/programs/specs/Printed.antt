@@ -11,7 +11,7 @@ use Rattle.byte_lists.specs.Bytes.{splice, Placed, placed, put_of}
 use Rattle.text.specs.Text.{answer_line, sizes_line, refused_line}
 use Rattle.play.specs.Play.{filled, call_of, calls, after, output_of}
 use Rattle.sheet.specs.Sheet.{sheet_of}
-use Rattle.demands.specs.Types.{Refusal, Terms, State, Memory, Ask, Answer, Response}
+use Rattle.demands.specs.Types.{Refusal, Terms, State, Memory, Ask, Response}
 use Rattle.demands.specs.Kinds.{writing}
 use Rattle.demands.specs.Book.{Book, Run, run, start}
 use Rattle.demands.specs.Demand2.{OneOrder}
