@@ -136,6 +136,7 @@ fn decided(z: Terms, top: u32, l: Lane, t: Option<Turn>) -> Result<Turn, Refusal
 }
 
 // The refusals of a step in their order; `fits` says whether the state's numbers are in their ranges.
+#[tactic(auto, using(crate::proofs::ActLaws::told_known), unfolding(acts::specs::Calls::verdict_of))]
 fn verdict_of(
     fits: bool,
     z: Terms,
@@ -177,6 +178,7 @@ fn moved(l: Lane, top: u32, t: Turn) -> Acted
 }
 
 // The step of process q, whose lane is l: judged first, so that a refusal stores nothing.
+#[tactic(auto, using(crate::proofs::ActLaws::moved_fits))]
 pub fn act(
     fits: bool,
     z: Terms,
