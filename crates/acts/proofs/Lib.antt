@@ -1,3 +1,1 @@
-pub mod OpenLaws
-pub mod BeginLaws
 pub mod StateLaws

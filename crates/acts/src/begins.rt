@@ -48,6 +48,7 @@ pub fn refused(l: Lane, top: u32, r: Refusal) -> Acted
 }
 
 // Beginning the operation o on cell i, in the lane l of process q.
+#[tactic(auto, unfolding(crate::specs::Calls::begun_of))]
 pub fn begun(fits: bool, z: Terms, top: u32, q: Process, l: Lane, i: Cell, o: Op) -> Acted
     ensures { result ≡ begun_of fits z top q.0 l i o }
 {

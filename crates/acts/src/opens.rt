@@ -19,6 +19,7 @@ pub fn lengths_fit(z: Terms, lent: Lent<'_>) -> bool
         && lent.pool.len() == numbers::pool_words(z.p, z.m)
 }
 
+#[tactic(auto, unfolding(crate::specs::Calls::opening_of))]
 pub fn opening_of(z: Terms, lent: Lent<'_>) -> Result<(), Refusal>
     ensures { result ≡ opening_of z (words lent.entry) }
 {

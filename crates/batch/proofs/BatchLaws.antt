@@ -8,21 +8,17 @@ use mathlib.Core.List.{List}
 use native.Mathlib.Decide.{ℕ_discrete}
 use native.Mathlib.Omega.{arith}
 use native.Mathlib.Numerals.{add-one}
-use lib.Dec.{leb, eqb}
+use lib.Dec.{eqb}
 use lib.ListN.{length, get_or, set, length-set}
 use lib.Seq.{get_or-set_same, get_or-set_other}
-use borrow.Author.Tests.{lt-leb, le-leb, eq-eqb, ne_eqb}
 use Rattle.numbers.specs.declared.Cell.{Cell}
 use Rattle.logic.specs.Pick.{pick}
-use Rattle.lanes.specs.declared.Lane.{Lane}
 use Rattle.lanes.specs.declared.State.{State}
 use Rattle.lanes.specs.Ranges.{lane_of, state_fits}
 use Rattle.numbers.specs.declared.Terms.{Terms}
 use Rattle.steps.specs.declared.Turn.{Turn}
 use Rattle.steps.specs.Inner.{handed}
 use Rattle.steps.specs.Steps.{turn_of}
-use Rattle.lanes.specs.declared.Check.TheVariants as Check
-use Rattle.lanes.specs.declared.Op.{Op}
 use Rattle.steps.specs.Memory.{Memory}
 use Rattle.acts.specs.declared.Acted.{Acted}
 use Rattle.acts.specs.declared.Ask.TheVariants as Ask
@@ -32,32 +28,6 @@ use Rattle.acts.proofs.StateLaws.{begun_is, step_is}
 use Rattle.batch.specs.Batch.{beginning, ask_of, entered, code_of, answer_of, Batch, batch, entering, onward, after, answer_at}
 use Rattle.batch.specs.Batch.{Told, entries, batch_of, entry_of}
 use Rattle.batch.specs.Kept.{begin_keeps, step_keeps}
-
-pub not_beginning : (kind : ℕ) → kind < 1 → false ≡ beginning kind
-not_beginning kind h = simp (lt-leb _ _ h)
-
-pub maybe_beginning : (kind : ℕ) → 1 ≤ kind → leb kind 3 ≡ beginning kind
-maybe_beginning kind h = simp (le-leb _ _ h)
-
-module _ (kind : ℕ) (i : Cell) (v : ℕ) where
-  pub op_read : kind ≡ 1 → Op.Read i Check.Link ≡ op_of (ask_of kind i v)
-  op_read h = simp (eq-eqb _ _ h)
-
-  pub op_write : (kind ≡ 1 → ⊥) → kind ≡ 2 → Op.Store i v ≡ op_of (ask_of kind i v)
-  op_write h k = simp (ne_eqb _ _ h, eq-eqb _ _ k)
-
-  pub op_asked : (kind ≡ 1 → ⊥) → (kind ≡ 2 → ⊥) → Op.Asked i Check.Link ≡ op_of (ask_of kind i v)
-  op_asked h k = simp (ne_eqb _ _ h, ne_eqb _ _ k)
-
-module _ (fits : Bool) (z : Terms) (top q : ℕ) (l : Lane) (seen kind : ℕ) (i : Cell) (v : ℕ) (mem : Memory) (b : Acted)
-    (r : Bool) (e : r ≡ beginning kind) where
-  pub entry_begun : (o : Op) → r ≡ true → o ≡ op_of (ask_of kind i v) → b ≡ begun_of fits z top q l i o
-      → effect b mem ≡ entry_of fits z top q l seen kind i v mem
-  entry_begun o h d g = rw (sym e ∙ h) (rw (g, d))
-
-  pub entry_step : (mem' : Memory) → r ≡ false → effect b mem' ≡ act_of fits z top q l mem (turn_of z top q l (handed seen) mem)
-      → effect b mem' ≡ entry_of fits z top q l seen kind i v mem
-  entry_step mem' h g = rw (sym e ∙ h) g
 
 -- the cell asked about is the entry's
 asked_cell : (kind : ℕ) (i : Cell) (v : ℕ) → i ≡ cell_of (ask_of kind i v)

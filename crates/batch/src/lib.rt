@@ -45,6 +45,7 @@ fn code_answer(a: Answer) -> u64
     }
 }
 
+#[tactic(auto, using(crate::specs::Words::number_few))]
 fn code_of(a: Result<Answer, Refusal>) -> u64
     ensures word { result ≡ code_of a }
     ensures back { answer_of result ≡ a }
@@ -56,6 +57,7 @@ fn code_of(a: Result<Answer, Refusal>) -> u64
 }
 
 // The answer that a word says.
+#[tactic(auto, unfolding(crate::specs::Batch::answer_of))]
 pub fn answer_of(w: u64) -> Result<Answer, Refusal>
     ensures { result ≡ answer_of w }
 {

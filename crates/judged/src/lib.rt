@@ -136,6 +136,7 @@ fn decided(z: Terms, top: u32, l: Lane, t: Option<Turn>) -> Result<Turn, Refusal
 }
 
 // The refusals of a step in their order.
+#[tactic(auto, using(crate::proofs::ActLaws::told_known), unfolding(acts::specs::Calls::verdict_of))]
 fn verdict_of(s: Seat, lent: Lent<'_>) -> Result<Turn, Refusal>
     ensures { result ≡ verdict_of s.fits s.terms s.top s.process.0 s.lane (words lent.entry)
         (turn_of s.terms s.top s.process.0 s.lane (handed s.seen) (words lent.entry)) }
@@ -168,6 +169,7 @@ fn moved(l: Lane, top: u32, t: Turn) -> Acted
 }
 
 // The step of a process: judged first, so that a refusal stores nothing.
+#[tactic(auto, using(crate::proofs::ActLaws::moved_fits))]
 pub fn act(s: Seat, lent: &mut LentMut<'_>) -> Acted
     ensures same { SameLent lent.old lent.new }
     ensures done { effect result (words_mut lent.new)

@@ -86,6 +86,7 @@ pub fn pool_words(p: u32, m: u32) -> usize
 }
 
 // The segment of a place: floor(log2(n + 2)) - 1, taken of (n + 2) / 2 because n + 2 may pass 64 bits.
+#[tactic(auto, using(crate::proofs::Made::segment_is))]
 pub fn segment_of(n: Place) -> u32
     ensures { result ≡ segment_of n.0 }
 {
@@ -93,6 +94,7 @@ pub fn segment_of(n: Place) -> u32
 }
 
 // Where in its segment a place lies: the segment's first place is 2 * (2^s - 1).
+#[tactic(auto, using(crate::proofs::Laws::segment_word, crate::proofs::Made::power_some, crate::proofs::Made::power_low, crate::proofs::Made::offset_split))]
 pub fn offset_of(n: Place) -> u64
     ensures { result ≡ offset_of n.0 }
 {
@@ -100,6 +102,7 @@ pub fn offset_of(n: Place) -> u64
 }
 
 // How many words segment s has; 0 where 64 bits cannot hold it, which no lane reaches.
+#[tactic(auto, using(crate::proofs::Made::size_twice, crate::proofs::Made::size_wide))]
 pub fn size_of(s: u32) -> u64
     ensures { result ≡ size_of s % 18446744073709551616 }
 {

@@ -87,6 +87,7 @@ fn seen_in(s: State, c: Check) -> u32
 }
 
 // One more step of a check that has not ended.
+#[tactic(auto, unfolding(steps::specs::Inner::handed))]
 fn onward(s: State, i: Cell, lent: Lent<'_>, found: Option<Found>) -> Option<Found>
     ensures { result ≡ onward s i lent.entry.links.now lent.entry.directory.now lent.entry.pool.now found }
 {
@@ -97,6 +98,7 @@ fn onward(s: State, i: Cell, lent: Lent<'_>, found: Option<Found>) -> Option<Fou
 }
 
 // The check of cell i, run to its end: four steps at the most. None where a word of it lies outside its memory.
+#[tactic(auto, unfolding(crate::specs::Quiet::looked_at))]
 pub fn looked_at(s: State, i: Cell, lent: Lent<'_>) -> Option<Found>
     ensures { result ≡ looked_at s i lent.entry.links.now lent.entry.directory.now lent.entry.pool.now }
 {

@@ -1,4 +1,4 @@
--- What a store into a part of the pool makes of the pool, and a change of the memories.
+-- What a store into a part of the pool makes of the pool.
 -- Assumes nothing.
 use mathlib.Core.Path.{◌≡◌, refl, ap, sym, ◌∙◌}
 use mathlib.Core.Bool.{Bool, true, false}
@@ -10,10 +10,6 @@ use lib.ListN.{length, set, take, drop, length-drop, take-append-drop}
 use lib.Seq.{set-append_left, set_out, length-take-le, take-set-le, drop-set-add}
 use borrow.Author.Tests.{ltb-true, ltb-false}
 use Rattle.numbers.specs.Numbers.{offset_of}
-use Rattle.numbers.specs.declared.Place.{Place}
-use Rattle.steps.specs.declared.Change.{Change}
-use Rattle.steps.specs.Memory.{Memory, memory}
-use Rattle.steps.specs.Changes.{memory_after}
 use Rattle.steps.specs.Inner.{Part}
 
 part_set : (xs : List ℕ) (a k o v : ℕ) → a + k ≤ length xs → o < k
@@ -35,9 +31,6 @@ part_kept xs a k o v h l =
     let room : k ≤ length (drop a xs) = simp length-drop (omega arith) in
     let short : length (take k (drop a xs)) ≤ o = rw (length-take-le k (drop a xs) room) l in
     rw (set_out (take k (drop a xs)) o v short, take-append-drop k (drop a xs)) (take-append-drop a xs)
-
-pub put_past : (pool : List ℕ) (start n v : ℕ) → length pool ≤ start → pool ≡ set pool (start + offset_of n) v
-put_past pool start n v h = sym (set_out pool (start + offset_of n) v (omega arith))
 
 module _ (pool : List ℕ) (start n o v : ℕ) (e : o ≡ offset_of n) where
   at_start : start + offset_of n ≡ start + o
@@ -62,24 +55,3 @@ module _ (pool : List ℕ) (start n o v : ℕ) (e : o ≡ offset_of n) where
               let j : start + offset_of n < length pool = rw at_start (ltb-true (start + o) (length pool) k) in
               absurd (let y : ⊥ = omega (arith, h.holds j, h.low) in y)
           outside x false k = ltb-false (start + o) (length pool) k
-
-module _ (ch : Change) (readings links directory pool : List ℕ) where
-  pub stored_arm : (c : Change) (mem : Memory) → ch ≡ c → mem ≡ memory_after c (memory readings links directory pool)
-      → mem ≡ memory_after ch (memory readings links directory pool)
-  stored_arm c mem e h = rw e h
-
-  pub stored_reading : (i v : ℕ) (ys : List ℕ) → ch ≡ Change.Reading i v → ys ≡ set readings i v
-      → memory ys links directory pool ≡ memory_after ch (memory readings links directory pool)
-  stored_reading i v ys e f = rw (e, f)
-
-  pub stored_link : (i w : ℕ) (ys : List ℕ) → ch ≡ Change.Link i w → ys ≡ set links i w
-      → memory readings ys directory pool ≡ memory_after ch (memory readings links directory pool)
-  stored_link i w ys e f = rw (e, f)
-
-  pub stored_directory : (k start : ℕ) (ys : List ℕ) → ch ≡ Change.Directory k start → ys ≡ set directory k start
-      → memory readings links ys pool ≡ memory_after ch (memory readings links directory pool)
-  stored_directory k start ys e f = rw (e, f)
-
-  pub stored_mark : (start mark : ℕ) (n : Place) (ys : List ℕ) → ch ≡ Change.Mark start n mark → ys ≡ set pool (start + offset_of n.0) mark
-      → memory readings links directory ys ≡ memory_after ch (memory readings links directory pool)
-  stored_mark start mark n ys e f = rw (e, f)

@@ -8,9 +8,8 @@ mod lent;
 pub mod look;
 pub mod store;
 
-pub use lent::{Lent, LentMut};
-
 use lanes::{Check, Op};
+pub use lent::{Lent, LentMut};
 use numbers::{Cell, Mark, Place, Terms};
 
 // What a step of a check shows.

@@ -17,6 +17,7 @@ pub fn put<T: Copy>(a: &mut [T], i: usize, v: T)
 }
 
 // The mark at place n of the segment that starts there: the segment's part of the pool is lent on.
+#[tactic(auto, using(crate::proofs::StoreLaws::put_part))]
 fn put_mark(pool: &mut [Mark], start: u32, n: Place, mark: Mark)
     ensures { pool.new ≡ set pool.old (start + offset_of n.0) mark }
 {

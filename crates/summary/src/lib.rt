@@ -99,6 +99,7 @@ fn quarters(s: State, i: u32, lent: Lent<'_>) -> Result<Hour, Refusal>
 }
 
 // The summary of hour h. Nothing is changed: the state is lent by value and the memories are only read.
+#[tactic(auto, unfolding(crate::specs::Summary::summary_of))]
 pub fn hour_summary(s: State, h: u32, lent: Lent<'_>) -> Result<Hour, Refusal>
     ensures { result ≡ summary_of s h (words lent.entry) }
 {

@@ -8,6 +8,7 @@ use numbers::{Cell, Place, Process, Terms};
 use steps::Word;
 
 // The word of a place in the segment that starts there.
+#[tactic(auto, using(crate::proofs::TouchLaws::offset_half))]
 fn pool_word(start: u32, n: Place) -> Word
     ensures { result ≡ Word.Pool (start + offset_of n.0) }
 {

@@ -66,6 +66,7 @@ pub fn checked_turn(q: Process, l: Lane, i: Cell, found: Option<Found>) -> Optio
     })
 }
 
+#[tactic(auto, using(crate::proofs::WriteLaws::drawn_few, crate::proofs::WriteLaws::drawn_whole, crate::proofs::WriteLaws::drawn_top))]
 fn draw_turn(z: Terms, top: u32, i: Cell, stored: bool, w: u64, n: Place) -> Turn
     requires { (sizes_fit z top ≡ true) × (place_fits z n ≡ true) }
     ensures { result ≡ draw_turn top i stored w n }

@@ -6,10 +6,13 @@ use Rattle.batch.proofs.BatchLaws.{going_start, going_more, going_end, entries_a
 use Rattle.batch.proofs.run.Goals as goal
 
 pub loop-i-init : goal.loop-i-init
-loop-i-init c = (search, going_start c.args.kinds.now c.args.processes.now c.args.cells.now c.args.values.now c.args.answers.now _ c.args.s _ _
-    (entries_are c.args.kinds.now c.args.processes.now c.args.cells.now c.args.values.now c.args.answers.now _ _ _ _ c.min.ensures
-    c.min-2.ensures c.min-3.ensures c.min-n.ensures)
-    c.fits-fits.ensures)
+loop-i-init c = (
+  search,
+  going_start c.args.kinds.now c.args.processes.now c.args.cells.now c.args.values.now c.args.answers.now _ c.args.s _ _
+      (entries_are c.args.kinds.now c.args.processes.now c.args.cells.now c.args.values.now c.args.answers.now _ _ _ _ c.min.ensures
+      c.min-2.ensures c.min-3.ensures c.min-n.ensures)
+      c.fits-fits.ensures,
+)
 
 pub invariant_of-seat : goal.invariant_of-seat
 invariant_of-seat c = let seen = c.lane_of-j.ensures.0 ∙ ap lane_at c.named.ensures in
@@ -18,8 +21,11 @@ invariant_of-seat c = let seen = c.lane_of-j.ensures.0 ∙ ap lane_at c.named.en
 
 pub loop-i-preserved : goal.loop-i-preserved
 loop-i-preserved c = let from = c.lane_of-j.ensures.0 ∙ ap lane_at c.named.ensures in
-    (search, going_more _ _ _ _ _ _ _ _ _ _ _ c.loop-i.t _ c.loop-i.invariant.1 _ _ _ _ _ _ _ refl c.loop-i-test.true c.lane_of-k.ensures.0
-    from c.entry-b.ensures.done (c.code_of.ensures.word, c.code_of.ensures.back) refl)
+    (
+      search,
+      going_more _ _ _ _ _ _ _ _ _ _ _ c.loop-i.t _ c.loop-i.invariant.1 _ _ _ _ _ _ _ refl c.loop-i-test.true c.lane_of-k.ensures.0
+          from c.entry-b.ensures.done (c.code_of.ensures.word, c.code_of.ensures.back) refl,
+    )
 
 pub returns-clause-done : goal.returns-clause-done
 returns-clause-done c = (going_end _ _ _ _ _ _ _ _ _ _ _ _ _ c.loop-i.invariant.1 c.loop-i-test.false).0
