@@ -5,11 +5,10 @@ pub mod begins;
 pub mod opens;
 mod seat;
 
-pub use seat::Seat;
-
 use lanes::{Lane, State};
 use numbers::Cell;
 use refusals::Refusal;
+pub use seat::Seat;
 
 // What an operation is to be.
 #[derive(Clone, Copy)]

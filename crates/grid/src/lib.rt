@@ -37,7 +37,15 @@ pub fn begin(s: State, q: Process, a: Ask) -> Stepped
     let fits = t.fits();
     let k = begins::lane_of(q);
     let l = t.lanes[k];
-    let b = begins::begun(fits, t.terms, t.top, q, l, begins::cell_of(a), begins::op_of(a));
+    let b = begins::begun(
+        fits,
+        t.terms,
+        t.top,
+        q,
+        l,
+        begins::cell_of(a),
+        begins::op_of(a),
+    );
     t.top = b.top;
     t.lanes[k] = b.lane;
     Stepped {

@@ -54,7 +54,13 @@ fn put_as(out: &mut [u8], at: usize, i: u32, q: Option<Quarter>) -> usize
     ensures { Laid out.old at (line_as i q) out.new result }
 {
     match q {
-        Some(q) => { if q.written { put_cell(out, at, i, q.reading) } else { at } }
+        Some(q) => {
+            if q.written {
+                put_cell(out, at, i, q.reading)
+            } else {
+                at
+            }
+        }
         None => at,
     }
 }

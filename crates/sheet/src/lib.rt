@@ -13,12 +13,7 @@ use qhs::Schedule;
 use steps::LentMut;
 
 // Plays a schedule on a grid in the lent memories, and writes its text.
-fn run(
-    bytes: &[u8],
-    file: Schedule,
-    lent: &mut LentMut<'_>,
-    out: &mut [u8],
-) -> Option<usize>
+fn run(bytes: &[u8], file: Schedule, lent: &mut LentMut<'_>, out: &mut [u8]) -> Option<usize>
     ensures { placed result out.new ≡ left bytes.now file.header file.records (words_mut lent.old) out.old }
 {
     let s = ends::state_after(bytes, file, lent);

@@ -20,12 +20,11 @@ invariant_of-seat c = let seen = c.lane_of-j.ensures.0 ∙ ap lane_at c.named.en
     (record { judged = judged_at c.loop-i.t _ _ c.lane_of-k.ensures.0 _ refl _ _ seen refl _ c.loop-i.invariant.1.fine })
 
 pub loop-i-preserved : goal.loop-i-preserved
-loop-i-preserved c = let from = c.lane_of-j.ensures.0 ∙ ap lane_at c.named.ensures in
-    (
-      search,
-      going_more _ _ _ _ _ _ _ _ _ _ _ c.loop-i.t _ c.loop-i.invariant.1 _ _ _ _ _ _ _ refl c.loop-i-test.true c.lane_of-k.ensures.0
-          from c.entry-b.ensures.done (c.code_of.ensures.word, c.code_of.ensures.back) refl,
-    )
+loop-i-preserved c = let from = c.lane_of-j.ensures.0 ∙ ap lane_at c.named.ensures in (
+  search,
+  going_more _ _ _ _ _ _ _ _ _ _ _ c.loop-i.t _ c.loop-i.invariant.1 _ _ _ _ _ _ _ refl c.loop-i-test.true c.lane_of-k.ensures.0
+      from c.entry-b.ensures.done (c.code_of.ensures.word, c.code_of.ensures.back) refl,
+)
 
 pub returns-clause-done : goal.returns-clause-done
 returns-clause-done c = (going_end _ _ _ _ _ _ _ _ _ _ _ _ _ c.loop-i.invariant.1 c.loop-i-test.false).0
