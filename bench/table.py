@@ -70,7 +70,8 @@ class Measured:
         return self.stretch[key] / self.units[key]
 
     def opens(self, m):
-        return self.opening(m, "opens") - self.opening(m, "begins")
+        # what the compiler joins with the begin after it is counted as one
+        return max(self.opening(m, "opens") - self.opening(m, "begins"), 1)
 
 
 def read(path):

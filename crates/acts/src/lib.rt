@@ -23,7 +23,7 @@ pub enum Ask {
 pub enum Answer {
     Begun,
     Going,
-    // the value, and whether the cell was written when it was read
+    // the value, which a cell has either way, and whether it was written when it was read
     Read(u32, bool, u8),
     Written(u8),
     Asked(bool, u8),

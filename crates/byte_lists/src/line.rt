@@ -4,7 +4,7 @@ ghost use Rattle.byte_lists.specs.declared.line.TheConstants.{ROOM};
 
 pub const ROOM: usize = 64;
 
-// The first `len` bytes are the line; what goes past its room is cut off.
+// The first `len` bytes are the line; what goes past its room is cut off. Its room is fixed: no heap is lent to a grid.
 #[derive(Clone, Copy)]
 pub struct Line {
     pub bytes: [u8; ROOM],

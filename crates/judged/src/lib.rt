@@ -55,6 +55,7 @@ fn top_after(top: u32, change: Change) -> u32
     }
 }
 
+// A lane of a state out of its ranges has any steps: that they are few is known of a step that moves alone, and is no type.
 fn advance(l: Lane, next: Next) -> Lane
     requires { l.steps ≤ most_steps }
     ensures { result ≡ advance next l }

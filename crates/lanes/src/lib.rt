@@ -20,7 +20,7 @@ pub enum Check {
 }
 
 // Where the marking of a cell stands, rules 3 to 8. The word is the link that (a) read; a bool says whether the tombstone is
-// already stored.
+// already stored, and rules no value beside it.
 #[derive(Clone, Copy)]
 pub enum Marking {
     // 3. the pool's top, then the directory
@@ -38,7 +38,8 @@ pub enum Marking {
     TakeBack(Place),
 }
 
-// The operation under way, if any, at its stage.
+// The operation under way, if any, at its stage. No `Option` of the others: that none is under way is a row of the papers' list like
+// them, which `op_turn`, `touched` and `op_fits` read with the rest.
 #[derive(Clone, Copy)]
 pub enum Op {
     Idle,

@@ -109,7 +109,7 @@ fn header_of(l: Layout, bytes: &[u8]) -> Header
     }
 }
 
-// What a grid of this header is opened with.
+// What a grid of this header is opened with. No `From`: the statements name the definition `terms_of`, and each call reads by it.
 pub fn terms_of(h: Header) -> Terms
     ensures { result ≡ terms_of h }
 {

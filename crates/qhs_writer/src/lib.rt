@@ -64,8 +64,8 @@ fn filed(
     Ok(end)
 }
 
-// Writes the file of a header and records; how many bytes it has. The records are handed in as a slice for each field. Fields that a kind doesn't need are put
-// to zero. A refusal writes nothing.
+// Writes the file of a header and records; how many bytes it has. The records are handed in as a slice for each field, of any lengths:
+// so says `write_of`. Fields that a kind doesn't need are put to zero. A refusal writes nothing.
 pub fn write(
     h: Header,
     kinds: &[u8],

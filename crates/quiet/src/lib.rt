@@ -11,7 +11,7 @@ use lanes::{Check, State};
 use numbers::{Cell, PROCESSES};
 use steps::{Found, Lent, Next};
 
-// What a look at all the lanes shows.
+// What a look at all the lanes shows. No `Result`: an order of refusals has another between these two (8).
 #[derive(Clone, Copy)]
 pub enum Scan {
     // A number of the state is out of range.

@@ -51,7 +51,7 @@ pub enum Word {
 #[derive(Clone, Copy)]
 pub enum Next {
     Going(Op),
-    // the value, and whether the cell is written
+    // the value, and whether the cell is written; by the filling rule it has a value either way
     Read(u32, bool),
     Written,
     Asked(bool),

@@ -67,6 +67,7 @@ pub fn checked_turn(q: Process, l: Lane, i: Cell, found: Option<Found>) -> Optio
 }
 
 #[tactic(auto, using(crate::proofs::WriteLaws::drawn_few, crate::proofs::WriteLaws::drawn_whole, crate::proofs::WriteLaws::drawn_top))]
+// The ranges are asked for, and are no type: of the terms, the top and a place each caller knows them from another test.
 fn draw_turn(z: Terms, top: u32, i: Cell, stored: bool, w: u64, n: Place) -> Turn
     requires { (sizes_fit z top ≡ true) × (place_fits z n ≡ true) }
     ensures { result ≡ draw_turn top i stored w n }
