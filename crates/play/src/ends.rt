@@ -18,13 +18,13 @@ pub fn state_after(bytes: &[u8], file: Schedule, lent: &mut LentMut<'_>) -> Stat
 {
     let n = file.records;
     let o = grid::open(qhs::terms_of(file.header), lent.as_ref());
-    let mut s = o.state;
+    let mut p = lists::Player {
+        state: o.state,
+        next: 0,
+    };
     let mut words = [0; lists::LIST];
-    let mut k = 0;
-    while k < n {
-        let c = lists::count(n - k);
-        s = lists::played(bytes, k, c, s, &mut words, lent);
-        k += c;
+    while p.next < n {
+        p.list(bytes, n, &mut words, lent);
     }
-    s
+    p.state
 }

@@ -28,15 +28,16 @@ fn run(bytes: &[u8], file: Schedule, lent: &mut LentMut<'_>, out: &mut [u8]) -> 
     let h = file.header;
     let n = file.records;
     let o = grid::open(qhs::terms_of(h), lent.as_ref());
-    let mut s = o.state;
+    let mut p = lists::Player {
+        state: o.state,
+        next: 0,
+    };
     let mut at = text::put_sizes(out, 0, h.p, h.m).unwrap_or(0);
     let mut words = [0; lists::LIST];
-    let mut k = 0;
-    while k < n {
-        let c = lists::count(n - k);
-        s = lists::played(bytes, k, c, s, &mut words, lent);
-        at = lists::lines(k, c, &words, at, out);
-        k += c;
+    while p.next < n {
+        let first = p.next;
+        let c = p.list(bytes, n, &mut words, lent);
+        at = lists::lines(first, c, &words, at, out);
     }
     Some(at)
 }

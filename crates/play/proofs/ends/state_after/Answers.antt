@@ -3,5 +3,5 @@ use mathlib.Core.Path.{refl}
 use Rattle.play.proofs.EndLaws.{ending_start}
 use Rattle.play.proofs.ends.state_after.Goals as goal
 
-pub loop-k-init : goal.loop-k-init
-loop-k-init c = (search (ending_start), (refl, search))
+pub loop-p-init : goal.loop-p-init
+loop-p-init c = (search (ending_start), (refl, search))
