@@ -11,6 +11,7 @@ pub mod ends;
 mod lists;
 pub mod memories;
 
+use lists::Player;
 use qhs::{FILE_RECORDS, Schedule};
 use steps::LentMut;
 
@@ -28,16 +29,12 @@ fn run(bytes: &[u8], file: Schedule, lent: &mut LentMut<'_>, out: &mut [u8]) -> 
     let h = file.header;
     let n = file.records;
     let o = grid::open(qhs::terms_of(h), lent.as_ref());
-    let mut p = lists::Player {
-        state: o.state,
-        next: 0,
-    };
+    let mut p = Player::new(o.state);
     let mut at = text::put_sizes(out, 0, h.p, h.m).unwrap_or(0);
-    let mut words = [0; lists::LIST];
     while p.next < n {
         let first = p.next;
-        let c = p.list(bytes, n, &mut words, lent);
-        at = lists::lines(first, c, &words, at, out);
+        let c = p.list(bytes, n, lent);
+        at = lists::lines(first, c, &p.words, at, out);
     }
     Some(at)
 }
