@@ -4,7 +4,6 @@ use Prim.Native.Nat.{ℕ, ◌+◌, ◌-◌, ◌<◌, ◌≤◌}
 use mathlib.Core.Path.{◌≡◌, refl, ap, ◌∙◌}
 use mathlib.Core.List.{List}
 use native.Mathlib.Omega.{arith}
-use lib.ListN.{length}
 use Rattle.numbers.specs.declared.Terms.{Terms}
 use Rattle.qhs.specs.declared.Header.{Header}
 use Rattle.qhs.specs.Qhs.{terms_of}
@@ -14,7 +13,7 @@ use Rattle.acts.specs.declared.Opened.{Opened}
 use Rattle.acts.specs.Calls.{open_of}
 use Rattle.acts.specs.Worlds.{grid, World, world, opened_world}
 use Rattle.play.specs.Play.{after}
-use Rattle.play.specs.Inner.{list_records, count_of, Listed, Short}
+use Rattle.play.specs.Inner.{count_of, Listed}
 use Rattle.play.proofs.ListLaws.{counted}
 
 -- the grid after the first k of n records
@@ -28,11 +27,6 @@ unfolding after
 ending_start bytes n w h = record { low = omega arith; fits = h; is = refl }
 
 module _ (bytes : List ℕ) (n k c : ℕ) (w₀ w : World State) (words : List ℕ) (p : Ending bytes n w₀ w k) (low : k < n) (e : c ≡ count_of (n - k)) where
-  pub ending_short : list_records ≡ length words → Short k c words
-  ending_short long =
-      let d = counted c (n - k) e in
-      record { few = d.few; number = omega (arith, p.fits, d.low); told = omega (arith, d.few, long) }
-
   pub ending_next : (w' : World State) → Listed bytes w₀ k c w' words → Ending bytes n w₀ w' (k + c)
   ending_next w' l = let d = counted c (n - k) e in record { low = omega (arith, d.low); fits = p.fits; is = l.is }
 

@@ -2,7 +2,7 @@
 -- Assumes nothing.
 use Rattle.std.specs.Prelude.{Err, None}
 use Prim.Native.Nat.{ℕ, ◌+◌, ◌<◌, ◌≤◌}
-use mathlib.Core.Path.{◌≡◌, sym, ap, ◌∙◌}
+use mathlib.Core.Path.{◌≡◌, sym, ◌∙◌}
 use mathlib.Core.List.{List}
 use native.Mathlib.Omega.{arith}
 use lib.ListN.{length}
@@ -11,23 +11,21 @@ use Rattle.refusals.specs.declared.Refusal.{Refusal}
 use Rattle.qhs.specs.declared.Header.{Header}
 use Rattle.qhs.specs.Qhs.{read_of, Reading, scheduled}
 use Rattle.qhs.specs.Laws.{schedule}
-use Rattle.steps.specs.Memory.{Memory}
 use Rattle.text.specs.Text.{file_refused_line}
 use Rattle.byte_lists.specs.Bytes.{Placed, placed, put_of}
 use Rattle.byte_lists.specs.Places.{put_fits}
 use Rattle.text.specs.Lengths.{file_refused_short}
 use Rattle.play.specs.Play.{filled, schedule_text, output_room, put, play_of}
-use Rattle.play.specs.Inner.{Ready}
-
-pub schedule_is : (bytes out : List ℕ) (h : Header) (n : ℕ) (mem : Memory) (r : Placed) → mem ≡ filled h → r ≡ put out (schedule_text bytes h n mem)
-    → r ≡ put out (schedule_text bytes h n (filled h))
-schedule_is bytes out h n mem r e f = f ∙ ap (λ (x : Memory). put out (schedule_text bytes h n x)) e
+use Rattle.play.specs.Inner.{Small, Ready}
 
 pub play_ready : (bytes out : List ℕ) (is : Reading) (h : Header) (n : ℕ) → output_room ≤ length out → is ≡ read_of bytes → is ≡ scheduled h n
     → Ready h n out
 play_ready bytes out is h n room read e =
     let s = schedule bytes is h n read e in
     record { p_high = s.counts.p_high; m_high = s.m_few; n_high = s.n_high; room = room }
+
+pub play_small : (bytes : List ℕ) (is : Reading) (h : Header) (n : ℕ) → is ≡ read_of bytes → is ≡ scheduled h n → Small h
+play_small bytes is h n read e = let s = schedule bytes is h n read e in record { p_high = s.counts.p_high; m_high = s.m_few }
 
 module _ (bytes out : List ℕ) where
   pub play_none : length out < output_room → placed None out ≡ play_of out bytes

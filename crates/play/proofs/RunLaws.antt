@@ -18,7 +18,7 @@ use Rattle.text.specs.Text.{sizes_line}
 use Rattle.byte_lists.specs.Bytes.{placed, put_of, end_of}
 use Rattle.text.specs.Lengths.{sizes_short}
 use Rattle.play.specs.Play.{after, lines_to, schedule_text, line_room, put}
-use Rattle.play.specs.Inner.{list_records, count_of, word_lines, Listed, Shown, Short, Room, Ready}
+use Rattle.play.specs.Inner.{list_records, count_of, word_lines, Listed, Shown, Room, Ready}
 use Rattle.play.proofs.ListLaws.{counted}
 use Rattle.play.proofs.LineLaws.{shown_none, shown_line, shown_more, shown_sized, lines_listed}
 
@@ -57,11 +57,6 @@ module _ (bytes : List ℕ) (n : ℕ) (w₀ : World State) (out₀ : List ℕ) (
   going_sized = shown_sized out₀ at₀ k (lines_to bytes w₀ k) out at (omega (arith, g.room, g.below)) g.shown
 
   module _ (c : ℕ) (words : List ℕ) (low : k < n) (e : c ≡ count_of (n - k)) where
-    pub going_short : list_records ≡ length words → Short k c words
-    going_short long =
-        let d = counted c (n - k) e in
-        record { few = d.few; number = omega (arith, g.few, d.low); told = omega (arith, d.few, long) }
-
     -- there is room for the lines of one more list
     pub going_room : list_records ≡ length words → Room k c words at out
     going_room long =

@@ -56,6 +56,11 @@ pub record Room (first c : ℕ) (words : List ℕ) (at : ℕ) (out : List ℕ) :
   pub told : c ≤ length words
   pub room : at + line_room * c ≤ length out
 
+-- A grid for which there is memory.
+pub record Small (h : Header) : Type 0 where
+  pub p_high : h.p ≤ most_processes
+  pub m_high : h.m ≤ most_file_cells
+
 -- What a schedule asks of its header, of its number of records and of the buffer.
 pub record Ready (h : Header) (n : ℕ) (out : List ℕ) : Type 0 where
   pub p_high : h.p ≤ most_processes

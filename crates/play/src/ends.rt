@@ -5,7 +5,7 @@ ghost use Rattle.acts.specs.Worlds.{grid, world, opened_world};
 ghost use Rattle.qhs.specs.Qhs.{terms_of};
 ghost use Rattle.play.specs.Play.{after};
 
-use super::lists;
+use super::lists::Player;
 use lanes::State;
 use qhs::Schedule;
 use steps::LentMut;
@@ -18,13 +18,10 @@ pub fn state_after(bytes: &[u8], file: Schedule, lent: &mut LentMut<'_>) -> Stat
 {
     let n = file.records;
     let o = grid::open(qhs::terms_of(file.header), lent.as_ref());
-    let mut s = o.state;
-    let mut words = [0; lists::LIST];
-    let mut k = 0;
-    while k < n {
-        let c = lists::count(n - k);
-        s = lists::played(bytes, k, c, s, &mut words, lent);
-        k += c;
+    let mut p = Player::new(o.state);
+    // The program's own loop writes lines after each list: one loop for both would take a closure whose contract is a fold, for two lines.
+    while p.next < n {
+        p.list(bytes, n, lent);
     }
-    s
+    p.state
 }

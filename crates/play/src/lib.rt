@@ -4,27 +4,21 @@
 ghost use Rattle.std.specs.Prelude.{◌≡◌};
 ghost use Rattle.steps.specs.Memory.{words_mut};
 ghost use Rattle.byte_lists.specs.Bytes.{placed};
-ghost use Rattle.play.specs.Play.{filled, schedule_text, put, play_of};
+ghost use Rattle.play.specs.Play.{schedule_text, put, play_of};
 ghost use Rattle.play.specs.Inner.{Ready};
 
 pub mod ends;
 mod lists;
+pub mod memories;
 
-use numbers::{CELL_MARKS, LANES, PROCESS_MARKS, SEGMENTS};
-use qhs::{FILE_CELLS, FILE_RECORDS, Schedule};
+use lists::Player;
+use qhs::{FILE_RECORDS, Schedule};
 use steps::LentMut;
 
 // A line's length at the most, and the room that the longest output takes: a line for the sizes, and one for each record.
 const LINE: usize = 27;
 
 pub const OUTPUT: usize = LINE * (FILE_RECORDS + 1);
-
-// The memories of the largest grid that a file asks for.
-pub const CELL_WORDS: usize = FILE_CELLS as usize;
-
-pub const DIRECTORY_WORDS: usize = (SEGMENTS as usize) * LANES;
-
-pub const POOL_WORDS: usize = CELL_MARKS * CELL_WORDS + PROCESS_MARKS * LANES;
 
 // Plays a schedule on a grid in the lent memories.
 fn run(bytes: &[u8], file: Schedule, lent: &mut LentMut<'_>, out: &mut [u8]) -> Option<usize>
@@ -35,39 +29,14 @@ fn run(bytes: &[u8], file: Schedule, lent: &mut LentMut<'_>, out: &mut [u8]) -> 
     let h = file.header;
     let n = file.records;
     let o = grid::open(qhs::terms_of(h), lent.as_ref());
-    let mut s = o.state;
+    let mut p = Player::new(o.state);
     let mut at = text::put_sizes(out, 0, h.p, h.m).unwrap_or(0);
-    let mut words = [0; lists::LIST];
-    let mut k = 0;
-    while k < n {
-        let c = lists::count(n - k);
-        s = lists::played(bytes, k, c, s, &mut words, lent);
-        at = lists::lines(k, c, &words, at, out);
-        k += c;
+    while p.next < n {
+        let first = p.next;
+        let c = p.list(bytes, n, lent);
+        at = lists::lines(first, c, &p.words, at, out);
     }
     Some(at)
-}
-
-// Plays a schedule on a grid whose memory holds the fill.
-fn schedule(bytes: &[u8], file: Schedule, out: &mut [u8]) -> Option<usize>
-    requires { Ready file.header file.records out.old }
-    ensures { placed result out.new
-        ≡ put out.old (schedule_text bytes.now file.header file.records (filled file.header)) }
-{
-    let h = file.header;
-    let fill = h.fill;
-    let low = (fill % 4294967296) as u32;
-    let mut readings = [low; CELL_WORDS];
-    let mut links = [fill; CELL_WORDS];
-    let mut directory = [low; DIRECTORY_WORDS];
-    let mut pool = [low; POOL_WORDS];
-    let mut lent = LentMut {
-        readings: &mut readings[..h.m as usize],
-        links: &mut links[..h.m as usize],
-        directory: &mut directory[..numbers::directory_words(h.p)],
-        pool: &mut pool[..numbers::pool_words(h.p, h.m)],
-    };
-    run(bytes, file, &mut lent, out)
 }
 
 // Writes what the program prints for a file of these bytes; where it ends, or None where the buffer is too short for any.
@@ -79,6 +48,14 @@ pub fn play(bytes: &[u8], out: &mut [u8]) -> Option<usize>
     }
     match qhs::read(bytes) {
         Err(r) => text::put_file_refused(out, 0, r),
-        Ok(file) => schedule(bytes, file, out),
+        Ok(file) => memories::with_filled(
+            file.header,
+            out,
+            |lent, out|
+                requires { Ready file.header file.records out.old }
+                ensures { placed result out.new
+                    ≡ put out.old (schedule_text bytes.entry.now file.header file.records (words_mut lent.old)) }
+            { run(bytes, file, lent, out) },
+        ),
     }
 }

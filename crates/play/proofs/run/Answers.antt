@@ -1,20 +1,23 @@
 -- `play::run` meets its contract: what the check does not find alone.
-use mathlib.Core.Path.{refl, ap, ◌∙◌}
+use mathlib.Core.Path.{ap, ◌∙◌}
 use Rattle.steps.specs.Memory.{words_mut}
 use Rattle.acts.specs.Calls.{open_of}
-use borrow.Author.Rules.{rules}
+use Rattle.acts.specs.Worlds.{world}
 use Rattle.play.proofs.RunLaws.{going_start, going_next, going_end}
 use Rattle.play.proofs.run.Goals as goal
 
-pub loop-k-init : goal.loop-k-init
-loop-k-init c = (search (going_start), (refl, search))
+pub loop-p-init : goal.loop-p-init
+loop-p-init c = (rw c.new-p.ensures.next (search (going_start)), search)
 
-pub loop-k-preserved : goal.loop-k-preserved
-loop-k-preserved c = let listed = c.played-s.ensures.done _ c.loop-k.invariant.0.is in (
-  going_next _ _ _ _ _ _ _ _ _ c.loop-k.invariant.0 _ _ c.loop-k-test.true c.count-c.ensures _ _ _ listed c.lines-at.ensures,
-  (search rules, search),
+pub loop-p-preserved : goal.loop-p-preserved
+loop-p-preserved c = let listed = c.list-c.ensures.done _ c.loop-p.invariant.0.is in (
+  rw c.list-c.ensures.on
+      (going_next _ _ _ _ _ _ _ _ _ c.loop-p.invariant.0 _ _ c.loop-p-test.true c.list-c.ensures.count _ _ _ listed c.lines-at.ensures),
+  search,
 )
 
 pub returns : goal.returns
-returns c = going_end c.args.bytes.now _ _ (words_mut c.args.lent.now) _ _ c.args.out.now _ _ _ _ _ _ _ c.requires c.terms_of.ensures
-    (c.open-o.ensures ∙ ap (open_of c.terms_of.result) c.as_ref.ensures) c.put_sizes.ensures c.unwrap_or-at.ensures c.loop-k-test.false c.loop-k.invariant.0
+returns c = going_end c.args.bytes.now _ _ (words_mut c.args.lent.now) _ _ c.args.out.now _ _ _
+    (world c.loop-p.p.state (words_mut c.loop-p.lent)) c.loop-p.out c.loop-p.at _ c.requires c.terms_of.ensures
+    (c.open-o.ensures ∙ ap (open_of c.terms_of.result) c.as_ref.ensures) c.put_sizes.ensures c.unwrap_or-at.ensures c.loop-p-test.false
+    (rw (← c.new-p.ensures.state) c.loop-p.invariant.0)

@@ -1,7 +1,6 @@
 -- `play::ends::state_after` meets its contract: what the check does not find alone.
-use mathlib.Core.Path.{refl}
 use Rattle.play.proofs.EndLaws.{ending_start}
 use Rattle.play.proofs.ends.state_after.Goals as goal
 
-pub loop-k-init : goal.loop-k-init
-loop-k-init c = (search (ending_start), (refl, search))
+pub loop-p-init : goal.loop-p-init
+loop-p-init c = (rw c.new-p.ensures.next (search (ending_start)), search)
