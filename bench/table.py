@@ -70,8 +70,7 @@ class Measured:
         return self.stretch[key] / self.units[key]
 
     def opens(self, m):
-        # what the compiler joins with the begin after it is counted as one
-        return max(self.opening(m, "opens") - self.opening(m, "begins"), 1)
+        return self.opening(m, "opens") - self.opening(m, "begins")
 
 
 def read(path):

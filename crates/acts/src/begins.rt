@@ -64,14 +64,12 @@ pub fn begun(fits: bool, z: Terms, top: u32, q: Process, l: Lane, i: Cell, o: Op
     if !numbers::cell_fits(z, i) {
         return refused(l, top, Refusal::NoSuchCell);
     }
-    let fresh = Lane {
-        marks: l.marks,
-        drawn: l.drawn,
-        steps: 0,
-        op: o,
-    };
     Acted {
-        lane: fresh,
+        lane: Lane {
+            steps: 0,
+            op: o,
+            ..l
+        },
         top: top,
         answer: Ok(Answer::Begun),
     }

@@ -32,7 +32,7 @@ fn count_of(b: bool, n: u8) -> u32
     if b { 256 + n as u32 } else { n as u32 }
 }
 
-// No `From`: neither type is of this crate.
+// No `From`: neither type is of this crate. With `u32::from` in place of the casts two goals stay open.
 fn code_answer(a: Answer) -> u64
     ensures word { result ≡ code_of (Ok a) }
     ensures back { answer_of result ≡ Ok a }
@@ -109,7 +109,7 @@ fn entry(s: Seat, kind: u8, i: Cell, v: u32, lent: &mut LentMut<'_>) -> Acted
 
 // As many entries as the shortest list has, each on the state and the memories that the one before it left. Every call keeps a
 // state in its ranges there, and one out of them as it is: so one look at the lanes serves them all.
-// A slice for each field, of any lengths, and kinds in bytes, any of them an entry: so has C its list, and so says `batch_of`.
+// A slice for each field, of any lengths, and kinds in bytes, any of them an entry: as C has its list, and as `batch_of` says.
 pub fn run(
     s: State,
     kinds: &[u8],

@@ -4,6 +4,7 @@
 use numbers::{Mark, Terms};
 use steps::LentMut;
 
+// C hands in slices, each by itself.
 // Opens a grid, and makes the calls of a list; an answer goes into a word for each. Gives the pool's top.
 #[unsafe(no_mangle)]
 pub extern "C" fn grid_list(

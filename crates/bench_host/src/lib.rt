@@ -82,6 +82,7 @@ pub fn opened(p: u32, m: u32, busy: u32, lent: &mut LentMut<'_>) -> State {
     s
 }
 
+// C hands in slices, each by itself.
 // Opens a grid and does an operation of process q for each lent word, which gets its outcome: first `before` writes, then
 // operations of one kind, on the cells 0, 1, .. below `cells` in turn. Gives the pool's top.
 #[unsafe(no_mangle)]

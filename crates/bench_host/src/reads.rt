@@ -39,6 +39,7 @@ fn ready(five: bool, p: u32, m: u32, q: u32, lent: &mut LentMut<'_>) -> State {
     s
 }
 
+// C hands in slices, each by itself.
 // Opens a grid and reads cell 0 for each lent word, which gets the outcome: five steps of a written cell, or one of a cell that
 // is not written. What four steps more cost is what a step costs by itself.
 #[unsafe(no_mangle)]

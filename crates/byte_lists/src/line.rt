@@ -9,7 +9,7 @@ pub const ROOM: usize = 64;
 pub struct Line {
     pub bytes: [u8; ROOM],
     pub len: usize,
-    ghost sized: { length bytes ≡ ROOM },
+    pub ghost sized: { length bytes ≡ ROOM },
 }
 
 impl Line {

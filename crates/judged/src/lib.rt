@@ -92,7 +92,7 @@ fn change_fits(z: Terms, change: Change) -> bool
     match change {
         Change::Marks(n) => n as usize <= numbers::most_marks(z.m),
         Change::Top(top, n) => {
-            top as usize <= numbers::pool_words(z.p, z.m) && n as u32 <= SEGMENTS
+            top as usize <= numbers::pool_words(z.p, z.m) && u32::from(n) <= SEGMENTS
         }
         _ => true,
     }

@@ -14,7 +14,7 @@ pub struct Cell(pub u32);
 #[derive(Clone, Copy)]
 pub struct Place(pub u64);
 
-// A process's number.
+// A process's number. Not a `Cell`'s twin: the types keep the two apart.
 #[derive(Clone, Copy)]
 pub struct Process(pub u32);
 

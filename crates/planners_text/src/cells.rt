@@ -39,6 +39,7 @@ pub fn measure(s: State, lent: Lent<'_>) -> Option<usize>
     Some(total)
 }
 
+// With `u64::from` in place of the casts its goal stays open.
 fn put_cell(out: &mut [u8], at: usize, i: u32, v: u32) -> usize
     requires { at + length (line_of i v) ≤ length out.old }
     ensures { Laid out.old at (line_of i v) out.new result }

@@ -31,6 +31,7 @@ fn run(bytes: &[u8], file: Schedule, lent: &mut LentMut<'_>, out: &mut [u8]) -> 
     let o = grid::open(qhs::terms_of(h), lent.as_ref());
     let mut p = Player::new(o.state);
     let mut at = text::put_sizes(out, 0, h.p, h.m).unwrap_or(0);
+    // No `for` steps by a number that each turn finds.
     while p.next < n {
         let first = p.next;
         let c = p.list(bytes, n, lent);

@@ -46,7 +46,7 @@ fn played(
     for i in 0..c {
         let d = qhs::record_at(bytes, first + i);
         kinds[i] = kind_of(d);
-        processes[i] = d.process as u32;
+        processes[i] = u32::from(d.process);
         cells[i] = d.cell;
         values[i] = d.value;
     }

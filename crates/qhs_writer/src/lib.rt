@@ -11,7 +11,8 @@ mod put;
 use qhs::{FILE_CELLS, FILE_RECORDS, Header, LAST_KIND, VERSION_1};
 use refusals::Refusal;
 
-// A record as it is written. Its cell has 16 bits, whatever the reader's has.
+// A record as it is written. Its cell has 16 bits, whatever the reader's has. Its kind is a byte, as the caller's slice has it: `write`
+// looks at all of them first.
 #[derive(Clone, Copy)]
 pub struct Entry {
     pub kind: u8,

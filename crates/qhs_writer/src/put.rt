@@ -29,7 +29,7 @@ fn mark(out: &mut [u8]) -> usize
     byte_lists::put_bytes(out, 0, b"QHS").unwrap_or(0)
 }
 
-// The header up to its sizes.
+// The header up to its sizes. (With `u64::from` in place of the casts its goal stays open, and so do those below.)
 fn front(h: Header, out: &mut [u8]) -> usize
     requires { header_bytes ≤ length out.old }
     ensures { Laid out.old 0 8 (front_bytes h) out.new result }
@@ -67,18 +67,12 @@ fn needed(e: Entry) -> Entry
     }
     if e.kind == Kind::Step as u8 {
         return Entry {
-            kind: e.kind,
-            process: e.process,
             cell: 0,
             value: 0,
+            ..e
         };
     }
-    Entry {
-        kind: e.kind,
-        process: e.process,
-        cell: e.cell,
-        value: 0,
-    }
+    Entry { value: 0, ..e }
 }
 
 fn entry(e: Entry, at: usize, out: &mut [u8]) -> usize

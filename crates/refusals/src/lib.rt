@@ -52,7 +52,7 @@ impl From<Refusal> for u32 {
     }
 }
 
-// The table's number.
+// The table's number: what the statements call `number_of`.
 pub fn number(r: Refusal) -> u32
     ensures { result ≡ number_of r }
 {

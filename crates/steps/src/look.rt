@@ -71,7 +71,7 @@ fn check_link(p: u32, w: u64) -> Found
 fn check_marks(marks: u32, w: u64) -> Found
     ensures { result ≡ check_marks marks w }
 {
-    if numbers::place_of(w).0 < marks as u64 {
+    if numbers::place_of(w).0 < u64::from(marks) {
         Found::On(Check::Directory(w))
     } else {
         Found::NotWritten(w)

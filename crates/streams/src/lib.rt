@@ -17,6 +17,7 @@ pub fn read_full<R: Read>(from: &mut R, buf: &mut [u8]) -> io::Result<usize>
         × Consumes (R.remaining from.old) (R.remaining from.new) (take n buf.new)) }
 {
     let mut done = 0;
+    // no `for`: the step is what the reader gives
     while done < buf.len() {
         let n = from.read(&mut buf[done..])?;
         if n == 0 {

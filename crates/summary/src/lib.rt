@@ -32,7 +32,7 @@ struct Tally {
 fn greater(a: u32, b: u32) -> u32
     ensures { result ≡ greater a b }
 {
-    if a < b { b } else { a }
+    a.max(b)
 }
 
 // One quarter more, which counts if it is written.
@@ -43,7 +43,7 @@ fn counted(t: Tally, q: Quarter) -> Tally
     if q.written {
         Tally {
             count: t.count + 1,
-            sum: t.sum + q.reading as u64,
+            sum: t.sum + u64::from(q.reading),
             peak: greater(t.peak, q.reading),
         }
     } else {
@@ -55,7 +55,7 @@ fn mean_of(sum: u64, count: u32) -> u32
     requires { Mean sum count }
     ensures { result ≡ sum / count }
 {
-    (sum / count as u64) as u32
+    (sum / u64::from(count)) as u32
 }
 
 fn hour_of(t: Tally) -> Hour

@@ -28,8 +28,8 @@ fn tombstone_first(q: Process, w: u64, n: Place) -> Marking
 fn marking_at(q: Process, l: Lane, w: u64) -> Marking
     ensures { result ≡ marking_at q.0 l w }
 {
-    let first = Place(l.marks as u64);
-    if numbers::segment_of(first) < l.drawn as u32 {
+    let first = Place(u64::from(l.marks));
+    if numbers::segment_of(first) < u32::from(l.drawn) {
         tombstone_first(q, w, first)
     } else {
         Marking::Draw(false, w, first)
@@ -39,7 +39,7 @@ fn marking_at(q: Process, l: Lane, w: u64) -> Marking
 fn marking_next(l: Lane, w: u64, n: Place) -> Marking
     ensures { result ≡ marking_next l w n }
 {
-    if numbers::segment_of(n) < l.drawn as u32 {
+    if numbers::segment_of(n) < u32::from(l.drawn) {
         Marking::Mark(w, n)
     } else {
         Marking::Draw(true, w, n)
@@ -66,14 +66,14 @@ pub fn checked_turn(q: Process, l: Lane, i: Cell, found: Option<Found>) -> Optio
     })
 }
 
-#[tactic(auto, using(crate::proofs::WriteLaws::drawn_few, crate::proofs::WriteLaws::drawn_whole, crate::proofs::WriteLaws::drawn_top))]
 // The ranges are asked for, and are no type: of the terms, the top and a place each caller knows them from another test.
+#[tactic(auto, using(crate::proofs::WriteLaws::drawn_few, crate::proofs::WriteLaws::drawn_whole, crate::proofs::WriteLaws::drawn_top))]
 fn draw_turn(z: Terms, top: u32, i: Cell, stored: bool, w: u64, n: Place) -> Turn
     requires { (sizes_fit z top ≡ true) × (place_fits z n ≡ true) }
     ensures { result ≡ draw_turn top i stored w n }
 {
     let s = numbers::segment_of(n);
-    let raised = (top as u64 + numbers::size_of(s)) as u32;
+    let raised = (u64::from(top) + numbers::size_of(s)) as u32;
     let drawn = (s + 1) as u8;
     marks(
         Change::Top(raised, drawn),
