@@ -1,8 +1,9 @@
 -- From the lanes that begin and step look at, one by one, to the state: the loop, the lane in use, and the call's outcome.
 -- Assumes nothing.
-use Rattle.std.specs.Prelude.{Option}
+use Rattle.std.specs.Prelude.{Option, Ok, Err}
 use mathlib.Core.Path.{◌≡◌, refl, sym, ap, ◌∙◌}
-use mathlib.Core.Bool.{Bool, true, false}
+use mathlib.Core.Bool.{Bool, true, false, not}
+use mathlib.Core.List.{List}
 use Prim.Native.Nat.{ℕ, ◌<◌, ◌≤◌}
 use native.Mathlib.Omega.{arith}
 use lib.Dec.{ltb}
@@ -10,8 +11,11 @@ use lib.ListN.{set}
 use lib.Seq.{set-get_or}
 use borrow.Author.Tests.{lt-ltb, ltb-true}
 use Rattle.numbers.specs.Numbers.{most_processes, most_marks}
+use Rattle.numbers.specs.Cells.{cell_fits}
 use Rattle.numbers.specs.declared.Cell.{Cell}
 use Rattle.numbers.specs.declared.Terms.{Terms}
+use Rattle.logic.specs.Pick.{pick}
+use Rattle.refusals.specs.declared.Refusal.{Refusal}
 use Rattle.steps.specs.declared.Turn.{Turn}
 use Rattle.steps.specs.Inner.{handed}
 use Rattle.steps.specs.Steps.{turn_of}
@@ -19,14 +23,16 @@ use Rattle.lanes.specs.declared.Check.{Check}
 use Rattle.lanes.specs.declared.Op.{Op}
 use Rattle.lanes.specs.declared.Lane.{Lane}
 use Rattle.lanes.specs.declared.State.{State}
-use Rattle.lanes.specs.Ranges.{rest, lane_of, marks_of, check_fits, op_fits, state_fits}
+use Rattle.lanes.specs.Ranges.{rest, lane_of, marks_of, idle, check_fits, op_fits, state_fits}
 use Rattle.lanes.specs.Laws.{sized, lane_ok, rest_fits_lem, sizes_of, lane_of_lem}
 use Rattle.steps.specs.Memory.{Memory}
 use Rattle.acts.specs.declared.Ask.{Ask}
+use Rattle.acts.specs.declared.Answer.TheVariants as Answer
 use Rattle.acts.specs.declared.Acted.{Acted}
-use Rattle.acts.specs.Calls.{lengths_fit, cell_of, op_of, begun_of, begin_of, verdict_of, turn_in, step_by, step_of}
-use Rattle.acts.specs.Calls.{effect, act_of, outcome, stepped_as, outcome_as}
-use Rattle.acts.specs.Inner.{lane_at, Judged, named_in, named, handed_turn}
+use Rattle.acts.specs.declared.Stepped.{Stepped}
+use Rattle.acts.specs.Calls.{Verdict, Response, lengths_fit, cell_of, op_of, refused_as, with_op, begun_of, begin_of, verdict_of, turn_in, step_by, step_of}
+use Rattle.acts.specs.Calls.{Effect, effect, effect_of, act_of, outcome, stepped_as, outcome_as}
+use Rattle.acts.specs.Inner.{lane_at, changes, Judged, named_in, named, handed_turn}
 
 -- the process that a lane in its range names is one of the grid's, or 0
 named_in_lem : (z : Terms) (c : Check) → 1 ≤ z.p → check_fits z c ≡ true → named_in c < z.p
@@ -74,6 +80,37 @@ module _ (s : State) (q k : ℕ) (at : k ≡ lane_at q) (l : Lane) (is : l ≡ l
       → b ≡ begun_of fits s.terms s.top q l i o → stepped_as s k b ≡ begin_of s q a
   begun_is fits a i o b e c d f = rw (f, e, c, d) (begun_by (cell_of a) (op_of a) (state_fits s) refl (ltb q s.terms.p) refl)
 
+  abbrev pub unchanged : Response → Stepped
+  unchanged a = record { state = s; answer = a }
+
+  -- a refusal leaves the lane and the top as they were
+  refused_is : (b : Acted) (r : Refusal) → b ≡ refused_as l s.top r → unchanged b.answer ≡ stepped_as s k b
+  refused_is b r f = rw f (ap (λ (x : List Lane). stepped x) (sym same_lanes))
+    where
+      stepped : List Lane → Stepped
+      stepped x = record { state = record { terms = s.terms; top = s.top; lanes = x }; answer = Err r }
+
+  pub begun_kept : (fits : Bool) (i : Cell) (o : Op) (b : Acted) → b ≡ begun_of fits s.terms s.top q l i o → changes b.answer ≡ false
+      → unchanged b.answer ≡ stepped_as s k b
+  unfolding begun_of
+  begun_kept fits i o b e h = by fits (ltb q s.terms.p) (idle l.op) (cell_fits s.terms i) e
+    where
+      refuse : Refusal → Acted
+      refuse = refused_as l s.top
+
+      begun : Acted
+      begun = record { lane = with_op l 0 o; top = s.top; answer = Ok Answer.Begun }
+
+      by : (w x y z : Bool)
+          → b ≡ pick (not w) (refuse Refusal.OutOfRange) (pick (not x) (refuse Refusal.NoSuchProcess)
+          (pick (not y) (refuse Refusal.UnderWay) (pick (not z) (refuse Refusal.NoSuchCell) begun)))
+          → unchanged b.answer ≡ stepped_as s k b
+      by false x y z f = refused_is b Refusal.OutOfRange f
+      by true false y z f = refused_is b Refusal.NoSuchProcess f
+      by true true false z f = refused_is b Refusal.UnderWay f
+      by true true true false f = refused_is b Refusal.NoSuchCell f
+      by true true true true f = let g : true ≡ false = sym (ap (λ (x : Acted). changes x.answer) f) ∙ h in cc
+
   -- a step on the lane at k, whose turn is that of process q's lane where it is the same
   module _ (mem : Memory) (t u : Option Turn) (same : state_fits s ≡ true → q < s.terms.p → t ≡ u) where
     acts_by : (x : Bool) → state_fits s ≡ x → (y : Bool) → ltb q s.terms.p ≡ y → (z : Bool) → lengths_fit s.terms mem ≡ z
@@ -89,6 +126,13 @@ module _ (s : State) (q k : ℕ) (at : k ≡ lane_at q) (l : Lane) (is : l ≡ l
     acted_is fits mem' b e f =
         ap (outcome_as s k) f
         ∙ rw e (acts_by (state_fits s) refl (ltb q s.terms.p) refl (lengths_fit s.terms mem) refl)
+
+  pub moved_kept : (v : Verdict) (mem mem' : Memory) (b : Acted) → effect b mem' ≡ effect_of l s.top mem v → changes b.answer ≡ false
+      → unchanged b.answer ≡ stepped_as s k b
+  moved_kept (Err r) mem mem' b e h = refused_is b r (ap (λ (x : Effect). x.acted) e)
+  moved_kept (Ok t) mem mem' b e h =
+      let g : true ≡ false = sym (ap (λ (x : Effect). changes x.acted.answer) e) ∙ h in
+      cc
 
   -- the marks in force that the step reads, looked up before it
   module _ (j : ℕ) (other : Lane) (from : j ≡ lane_at (named l.op)) (sees : other ≡ lane_of s j) where
@@ -124,3 +168,11 @@ module _ (s : State) (q k : ℕ) (at : k ≡ lane_at q) (l : Lane) (is : l ≡ l
         → outcome (stepped_as s k b) mem' ≡ step_of s q mem
     step_is fits mem mem' b e f =
         acted_is mem (turn_of s.terms s.top q l (handed other.marks) mem) (turn_in s q mem) (λ h low. handed_is h low mem) fits mem' b e f
+
+    pub step_kept : (fits : Bool) (mem mem' : Memory) (b : Acted) → fits ≡ state_fits s
+        → effect b mem' ≡ act_of fits s.terms s.top q l mem (turn_of s.terms s.top q l (handed other.marks) mem)
+        → changes b.answer ≡ false → outcome (unchanged b.answer) mem' ≡ step_of s q mem
+    step_kept fits mem mem' b e f h =
+        ap (λ (x : Stepped). outcome x mem')
+        (moved_kept (verdict_of fits s.terms s.top q l mem (turn_of s.terms s.top q l (handed other.marks) mem)) mem mem' b f h)
+        ∙ step_is fits mem mem' b e f

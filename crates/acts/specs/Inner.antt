@@ -1,6 +1,6 @@
 -- What functions inside the crate and above it lean on; no statement cites it.
 -- Assumes nothing.
-use Rattle.std.specs.Prelude.{ℕ, ◌<◌, ◌≤◌, ◌≡◌, refl, List, Bool, true, ltb}
+use Rattle.std.specs.Prelude.{ℕ, ◌<◌, ◌≤◌, ◌≡◌, refl, List, Bool, true, false, Ok, Err, ltb}
 use Rattle.std.proofs.Common.{ap}
 use Rattle.numbers.specs.Numbers.{most_processes, most_marks, process_of}
 use Rattle.numbers.specs.declared.Cell.{Cell}
@@ -13,10 +13,16 @@ use Rattle.lanes.specs.Ranges.{lane_fits, sizes_fit}
 use Rattle.steps.specs.Memory.{Memory}
 use Rattle.steps.specs.Inner.{handed}
 use Rattle.steps.specs.Steps.{check, read_turn, asked_turn, checked_turn, op_turn}
+use Rattle.acts.specs.Calls.{Response}
 
 -- A process's lane; 0 where it has none.
 abbrev pub lane_at : ℕ → ℕ
 lane_at q = pick (ltb q most_processes) q 0
+
+-- Only a refusal changes nothing.
+abbrev pub changes : Response → Bool
+changes (Ok a) = true
+changes (Err r) = false
 
 -- What the judge of a step is to know where the state fits.
 pub record Judged (fits : Bool) (z : Terms) (top q : ℕ) (l : Lane) (seen : ℕ) : Type 0 where

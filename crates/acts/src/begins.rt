@@ -1,8 +1,9 @@
 // Beginning an operation: the refusals, and the lane that it starts from. What a refusal of any call leaves.
-ghost use Rattle.std.specs.Prelude.{◌≡◌, ◌<◌};
+ghost use Rattle.std.specs.Prelude.{◌≡◌, true, ◌<◌, ◌≤◌};
 ghost use Rattle.numbers.specs.Numbers.{most_processes};
+ghost use Rattle.logic.specs.Pick.{pick};
 ghost use Rattle.acts.specs.Calls.{cell_of, op_of, begun_of};
-ghost use Rattle.acts.specs.Inner.{lane_at};
+ghost use Rattle.acts.specs.Inner.{lane_at, changes};
 
 use super::{Acted, Answer, Ask};
 use lanes::{Check, Lane, Op};
@@ -14,6 +15,14 @@ pub fn lane_of(q: Process) -> usize
     ensures { (result ≡ lane_at q.0) × (result < most_processes) }
 {
     if q.0 < PROCESSES { q.0 as usize } else { 0 }
+}
+
+// How many lanes are to be looked at: none where the sizes do not fit. (The calls' own look is `State::fits`.)
+pub fn lanes_below(fits: bool, p: u32) -> usize
+    requires { fits ≡ true → p ≤ most_processes }
+    ensures { (result ≤ most_processes) × (result ≡ pick fits p 0) }
+{
+    if fits { p as usize } else { 0 }
 }
 
 pub fn cell_of(a: Ask) -> Cell
@@ -45,6 +54,13 @@ pub fn refused(l: Lane, top: u32, r: Refusal) -> Acted
         top: top,
         answer: Err(r),
     }
+}
+
+// Only a refusal changes nothing.
+pub fn changes(a: Result<Answer, Refusal>) -> bool
+    ensures { result ≡ changes a }
+{
+    a.is_ok()
 }
 
 // Beginning the operation o on cell i, in the lane l of process q.

@@ -22,9 +22,10 @@ use Rattle.steps.specs.Steps.{turn_of}
 use Rattle.steps.specs.Memory.{Memory}
 use Rattle.acts.specs.declared.Acted.{Acted}
 use Rattle.acts.specs.declared.Ask.TheVariants as Ask
-use Rattle.acts.specs.Calls.{cell_of, op_of, Outcome, outcome, Effect, effect, stepped_as, begun_of, begin_of, act_of, step_of}
-use Rattle.acts.specs.Inner.{lane_at, named}
-use Rattle.acts.proofs.StateLaws.{begun_is, step_is}
+use Rattle.acts.specs.declared.Stepped.{Stepped}
+use Rattle.acts.specs.Calls.{cell_of, op_of, Outcome, outcome, Effect, effect, stepped_as, begun_of, begin_of, verdict_of, act_of, step_of}
+use Rattle.acts.specs.Inner.{lane_at, changes, named}
+use Rattle.acts.proofs.StateLaws.{begun_is, begun_kept, moved_kept, step_is}
 use Rattle.batch.specs.Batch.{beginning, ask_of, entered, code_of, answer_of, Batch, batch, entering, onward, after, answer_at}
 use Rattle.batch.specs.Batch.{Told, entries, batch_of, entry_of}
 use Rattle.batch.specs.Kept.{begin_keeps, step_keeps}
@@ -60,6 +61,18 @@ module _ (s : State) (q k : ℕ) (at : k ≡ lane_at q) (j : ℕ) (from : j ≡ 
 
   pub entry_is : Entry (beginning kind) → outcome (stepped_as s k b) mem' ≡ entered s mem kind q i v
   entry_is f = out_by (beginning kind) f
+
+  -- where its answer is a refusal, the state is left as it was
+  kept_by : (w : Bool) → Entry w → changes b.answer ≡ false → s ≡ (stepped_as s k b).state
+  kept_by true f h =
+      ap (λ (x : Stepped). x.state)
+      (begun_kept s q k at (lane_of s k) refl fits i (op_of (ask_of kind i v)) b (ap (λ (x : Effect). x.acted) f) h)
+  kept_by false f h =
+      ap (λ (x : Stepped). x.state)
+      (moved_kept s q k at (lane_of s k) refl (verdict_of fits s.terms s.top q (lane_of s k) mem turn) mem mem' b f h)
+
+  pub entry_kept : Entry (beginning kind) → changes b.answer ≡ false → s ≡ (stepped_as s k b).state
+  entry_kept f h = kept_by (beginning kind) f h
 
 -- an entry keeps a state in its ranges there
 pub entered_keeps : (s : State) (mem : Memory) (kind q : ℕ) (i : Cell) (v : ℕ) → state_fits (entered s mem kind q i v).stepped.state ≡ state_fits s
@@ -191,6 +204,11 @@ module _ (kinds processes cells values answers₀ : List ℕ) (mem₀ : Memory) 
 
         given : b.answer ≡ answer_at kinds processes cells values (batch s mem₀ answers₀) i
         given = ap (λ (x : Outcome). x.stepped.answer) out ∙ ap (λ (x : Batch). (entering kinds processes cells values x i).stepped.answer) G.done
+
+    pub going_kept : (mem' : Memory) (k j : ℕ) (b : Acted) → k ≡ lane_at (get_or processes i 0) → j ≡ lane_at (named (lane_of t k).op)
+        → Does s.terms k j b mem' → changes b.answer ≡ false → t ≡ (stepped_as t k b).state
+    going_kept mem' k j b at from f h = entry_kept t (get_or processes i 0) k at j from fits G.fine mem mem' (get_or kinds i 0)
+        (record { 0 = get_or cells i 0 }) (get_or values i 0) b (own_terms k j b mem' f) h
 
     pub going_end : n ≤ i
         → (batch t mem answers ≡ batch_of s mem₀ answers₀ kinds processes cells values)

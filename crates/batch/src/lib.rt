@@ -135,7 +135,14 @@ pub fn run(
     for i in 0..n {
         let q = Process(processes[i]);
         let k = begins::lane_of(q);
-        let lane = t.lanes[k];
+        let l = t.lanes[k];
+        // by its fields: taken as one it is read in wider words than it was stored in
+        let lane = Lane {
+            marks: l.marks,
+            drawn: l.drawn,
+            steps: l.steps,
+            op: l.op,
+        };
         let j = begins::lane_of(judged::named(lane.op));
         let seat = Seat {
             fits,
@@ -147,8 +154,10 @@ pub fn run(
         };
         let b = entry(seat, kinds[i], Cell(cells[i]), values[i], lent);
         answers[i] = code_of(b.answer);
-        t.top = b.top;
-        t.lanes[k] = b.lane;
+        if begins::changes(b.answer) {
+            t.top = b.top;
+            t.lanes[k] = b.lane;
+        }
     }
     t
 }

@@ -1,8 +1,14 @@
-// Opening, by itself. The benchmark takes the second loop's count from the first's. Each opened state is kept in a variable (`t`) in
-// both, and its top is asked for at the end: so that the compiler makes all of it, and a copy of it for each begin.
-use acts::Ask;
+// Opening, by itself. The benchmark takes the second loop's count from the first's.
+use acts::{Ask, Stepped};
+use lanes::State;
 use numbers::{Cell, Mark, Process};
 use steps::Lent;
+
+// Never in line, and handed where the state lies: so that the compiler makes the whole state for it, and no copy in one loop alone.
+#[inline(never)]
+fn begun(s: &State) -> Stepped {
+    grid::begin(*s, Process(0), Ask::Read(Cell(0)))
+}
 
 // Opens n grids, and begins a read in each: the state that open gives is then made in full, and not only what is looked at.
 // Gives a sum over the states.
@@ -23,13 +29,11 @@ pub extern "C" fn grid_opens(
         pool,
     };
     let mut sum: u32 = 0;
-    let mut t = grid::open(super::terms(p, m, 0), lent).state;
     for i in 0..n {
-        t = grid::open(super::terms(p, m, i), lent).state;
-        let s = grid::begin(t, Process(0), Ask::Read(Cell(0))).state;
-        sum = sum.wrapping_add(s.terms.first);
+        let o = grid::open(super::terms(p, m, i), lent);
+        sum = sum.wrapping_add(begun(&o.state).state.terms.first);
     }
-    sum.wrapping_add(t.top)
+    sum
 }
 
 // Opens one grid and begins the same read n times: what of the above is not the opening.
@@ -49,11 +53,10 @@ pub extern "C" fn grid_begins(
         directory,
         pool,
     };
+    let o = grid::open(super::terms(p, m, 7), lent);
     let mut sum: u32 = 0;
-    let t = grid::open(super::terms(p, m, 7), lent).state;
     for _ in 0..n {
-        let s = grid::begin(t, Process(0), Ask::Read(Cell(0))).state;
-        sum = sum.wrapping_add(s.terms.first);
+        sum = sum.wrapping_add(begun(&o.state).state.terms.first);
     }
-    sum.wrapping_add(t.top)
+    sum
 }

@@ -4,6 +4,9 @@ ghost use Rattle.byte_lists.specs.declared.line.TheConstants.{ROOM};
 
 pub const ROOM: usize = 64;
 
+// No number of 64 bits has more.
+const DIGITS: usize = 20;
+
 // The first `len` bytes are the line; what goes past its room is cut off. Its room is fixed: no heap is lent to a grid.
 #[derive(Clone, Copy)]
 pub struct Line {
@@ -26,35 +29,46 @@ impl Line {
         }
     }
 
+    // In place: a line handed on for each byte would be copied for each.
+    fn push(&mut self, b: u8)
+        ensures { Grown self.old self.new (b ∷ []) }
+    {
+        if self.len < ROOM {
+            self.bytes[self.len] = b;
+            self.len += 1;
+        }
+    }
+
     pub fn byte(mut self, b: u8) -> Line
         ensures { Grown self result (b ∷ []) }
     {
-        if ROOM <= self.len {
-            return self;
-        }
-        self.bytes[self.len] = b;
-        self.len += 1;
+        self.push(b);
         self
     }
 
-    pub fn word(self, w: &[u8]) -> Line
+    pub fn word(mut self, w: &[u8]) -> Line
         ensures { Grown self result w.now }
     {
-        let mut line = self;
         for &b in w {
-            line = line.byte(b);
+            self.push(b);
         }
-        line
+        self
     }
 
-    // The digits before the last are the number's tenth.
+    // The digits are found from the last one on: by recursion each would copy the line.
     pub fn number(self, n: u64) -> Line
         ensures { Grown self result (decimal n) }
     {
-        if n < 10 {
-            self.byte(b'0' + n as u8)
-        } else {
-            self.number(n / 10).byte(b'0' + (n % 10) as u8)
+        let mut digits = [0; DIGITS];
+        let mut rest = n;
+        for i in (0..DIGITS).rev() {
+            digits[i] = b'0' + (rest % 10) as u8;
+            if rest < 10 {
+                return self.word(&digits[i..]);
+            }
+            rest /= 10;
         }
+        // There are no more digits.
+        self
     }
 }

@@ -55,7 +55,7 @@ pub fn begin(s: State, q: Process, a: Ask) -> Stepped
 }
 
 // One step of process q. The state is copied once, into `t`, and changed there; no other function takes it. The lane is taken
-// late, as in `begin`.
+// late, as in `begin`, and a refusal leaves it where it is.
 pub fn step(s: State, q: Process, lent: &mut LentMut<'_>) -> Stepped
     ensures same { SameLent lent.old lent.new }
     ensures done { outcome result (words_mut lent.new) ≡ step_of s q.0 (words_mut lent.old) }
@@ -74,8 +74,10 @@ pub fn step(s: State, q: Process, lent: &mut LentMut<'_>) -> Stepped
         seen: t.lanes[j].marks,
     };
     let b = judged::act(seat, lent);
-    t.top = b.top;
-    t.lanes[k] = b.lane;
+    if begins::changes(b.answer) {
+        t.top = b.top;
+        t.lanes[k] = b.lane;
+    }
     Stepped {
         state: t,
         answer: b.answer,

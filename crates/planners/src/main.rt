@@ -1,7 +1,7 @@
 // The planners' program: one schedule file from standard input, the text of the grid that it leaves to standard output.
 #![tactic(auto)]
 
-use play::memories::CELL_WORDS;
+use play::CELL_WORDS;
 use std::io;
 
 // The heading's length, a line's at the most, and the room that the longest text takes: the heading, and a line for each cell.

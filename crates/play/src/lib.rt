@@ -12,6 +12,7 @@ mod lists;
 pub mod memories;
 
 use lists::Player;
+pub use memories::{CELL_WORDS, DIRECTORY_WORDS, POOL_WORDS};
 use qhs::{FILE_RECORDS, Schedule};
 use steps::LentMut;
 

@@ -10,9 +10,9 @@ use steps::LentMut;
 
 pub const CELL_WORDS: usize = FILE_CELLS as usize;
 
-const DIRECTORY_WORDS: usize = (SEGMENTS as usize) * LANES;
+pub const DIRECTORY_WORDS: usize = (SEGMENTS as usize) * LANES;
 
-const POOL_WORDS: usize = CELL_MARKS * CELL_WORDS + PROCESS_MARKS * LANES;
+pub const POOL_WORDS: usize = CELL_MARKS * CELL_WORDS + PROCESS_MARKS * LANES;
 
 // Lends memories that hold the fill, and the buffer, to `run`.
 pub fn with_filled<R, F: FnOnce(&mut LentMut<'_>, &mut [u8]) -> R>(

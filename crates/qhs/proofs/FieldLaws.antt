@@ -3,8 +3,9 @@
 use mathlib.Core.Path.{◌≡◌, refl, sym, ap, ◌∙◌}
 use mathlib.Core.Bool.{Bool, true, false}
 use mathlib.Core.List.{List}
-use Prim.Native.Nat.{ℕ, suc, ◌+◌, ◌-◌, ◌*◌, ◌/◌, ◌^◌, ◌<◌, ◌≤◌}
-use native.Mathlib.Nat.{pow-zero, pow-succ', pow-le-pow_right, mul_comm, div-lt_iff_lt-mul, le-div_iff_mul-le}
+use Prim.Native.Nat.{ℕ, ◌+◌, ◌-◌, ◌*◌, ◌/◌, ◌^◌, ◌<◌, ◌≤◌}
+use native.Mathlib.Nat.{pow-succ', pow-le-pow_right, mul_comm, div-lt_iff_lt-mul, le-div_iff_mul-le}
+use native.Mathlib.Numerals.{add-one}
 use native.Mathlib.Omega.{arith}
 use lib.ListN.{length}
 use lib.Dec.{leb, eqb}
@@ -16,29 +17,43 @@ use Rattle.byte_lists.specs.Bytes.{byte_at, number_at}
 use Rattle.qhs.specs.Inner.{Sound, start_in}
 use Rattle.byte_lists.proofs.Digits.{number_cons, number_one, number_past}
 
--- ---- a number: its lowest byte, and the number above it
+-- ---- a number, from its last byte down
 
-pub number_none : (s : List ℕ) (at width : ℕ) → width ≡ 0 → (0 ≡ number_at s at width) × (0 < 256 ^ width)
+pub record Gathered (s : List ℕ) (at width n i : ℕ) : Type 0 where
+  pub left : i ≤ width
+  pub value : n ≡ number_at s (at + i) (width - i)
+  pub below : n < 256 ^ (width - i)
+
+pub gathered_none : (s : List ℕ) (at width : ℕ) → Gathered s at width 0 width
 unfolding number_at
-number_none s at width e = rw e (refl, omega (arith, pow-zero 256))
+gathered_none s at width =
+    let e : width - width ≡ 0 = omega arith in
+    record { left = omega arith; value = rw e; below = rw e (omega arith) }
 
-module _ (width rest : ℕ) (some : width ≡ 0 → ⊥) (below : rest < 256 ^ (width - 1)) where
-  above : 256 ^ width ≡ 256 * 256 ^ (width - 1)
-  above = let e : width ≡ suc (width - 1) = omega (arith, some) in ap (λ (k : ℕ). 256 ^ k) e ∙ pow-succ' 256 (width - 1)
+-- before the last byte there is room for one byte more
+pub room : (s : List ℕ) (at width n i : ℕ) → Gathered s at width n i → 0 < i → width ≤ 8 → 256 * n + 255 < 18446744073709551616
+room s at width n i g h w =
+    let k : width - i ≤ 7 = omega arith in
+    let b = g.below in
+    let p : 256 ^ (width - i) ≤ 256 ^ 7 = pow-le-pow_right (omega arith) k in
+    omega arith
 
-  pub room : width ≤ 8 → 256 * rest + 255 < 18446744073709551616
-  room w =
-      let few : width - 1 ≤ 7 = omega arith in
-      let p : 256 ^ (width - 1) ≤ 256 ^ 7 = pow-le-pow_right (omega arith) few in
-      omega (arith, below)
-
-pub number_more : (s : List ℕ) (at width low rest : ℕ) → (width ≡ 0 → ⊥) → rest < 256 ^ (width - 1) → low < 256 → low ≡ byte_at s at
-    → rest ≡ number_at s (at + 1) (width - 1) → (low + 256 * rest ≡ number_at s at width) × (low + 256 * rest < 256 ^ width)
-number_more s at width low rest some below small e f =
-    let one_more : width ≡ width - 1 + 1 = omega (arith, some) in
-    let joined : number_at s at width ≡ byte_at s at + 256 * number_at s (at + 1) (width - 1) =
-    ap (λ (k : ℕ). number_at s at k) one_more ∙ number_cons s at (width - 1) in
-    (rw (e, f) (sym joined), omega (arith, above width rest some below))
+pub gathered_next : (s : List ℕ) (at width n i b : ℕ) → Gathered s at width n i → 0 < i → b ≡ byte_at s (at + (i - 1)) → b < 256
+    → Gathered s at width (256 * n + b) (i - 1)
+gathered_next s at width n i b g h e small =
+    let here : at + (i - 1) + 1 ≡ at + i = omega (arith, g.left) in
+    let more : width - (i - 1) ≡ width - i + 1 = omega (arith, g.left) in
+    let v = number_cons s (at + (i - 1)) (width - i) in
+    let v' : number_at s (at + (i - 1)) (width - i + 1) ≡ byte_at s (at + (i - 1)) + 256 * number_at s (at + i) (width - i)
+    = v ∙ ap (λ (x : ℕ). byte_at s (at + (i - 1)) + 256 * number_at s x (width - i)) here in
+    let lo = g.below in
+    let vv = g.value in
+    let p : 256 ^ (width - i + 1) ≡ 256 * 256 ^ (width - i) = rw (add-one (width - i)) (pow-succ' 256 (width - i)) in
+    record {
+      left = omega (arith, g.left);
+      value = rw more (omega arith);
+      below = rw more (omega arith);
+    }
 
 -- ---- a number of 32 bits
 

@@ -17,11 +17,11 @@ pub fn number_at(bytes: &[u8], at: usize, width: usize) -> u64
     requires { (width ≤ 8) × Near bytes.now at width }
     ensures { (result ≡ number_at bytes.now at width) × (result < 256 ^ width) }
 {
-    if width == 0 {
-        return 0;
+    let mut n: u64 = 0;
+    for i in (0..width).rev() {
+        n = 256 * n + u64::from(byte_at(bytes, at + i));
     }
-    let rest = number_at(bytes, at + 1, width - 1);
-    u64::from(byte_at(bytes, at)) + 256 * rest
+    n
 }
 
 // Such a number of 32 bits at the most.

@@ -64,21 +64,19 @@ impl Scan {
 }
 
 // The marks in force of lane q; 0 where there is no such lane.
-fn marks_at(s: State, q: u32) -> u32
-    ensures { result ≡ marks_at s q }
+fn marks_at(s: &State, q: u32) -> u32
+    ensures { result ≡ marks_at s.now q }
 {
     if q < PROCESSES {
-        let k = q as usize;
-        let l = s.lanes[k];
-        l.marks
+        s.lanes[q as usize].marks
     } else {
         0
     }
 }
 
 // The marks in force that the next step of a check reads.
-fn seen_in(s: State, c: Check) -> u32
-    ensures { result ≡ marks_at s (named_in c) }
+fn seen_in(s: &State, c: Check) -> u32
+    ensures { result ≡ marks_at s.now (named_in c) }
 {
     match c {
         Check::Marks(w) => marks_at(s, numbers::process_of(w).0),
@@ -88,8 +86,8 @@ fn seen_in(s: State, c: Check) -> u32
 
 // One more step of a check that has not ended.
 #[tactic(auto, unfolding(steps::specs::Inner::handed))]
-fn onward(s: State, i: Cell, lent: Lent<'_>, found: Option<Found>) -> Option<Found>
-    ensures { result ≡ onward s i lent.entry.links.now lent.entry.directory.now lent.entry.pool.now found }
+fn onward(s: &State, i: Cell, lent: Lent<'_>, found: Option<Found>) -> Option<Found>
+    ensures { result ≡ onward s.now i lent.entry.links.now lent.entry.directory.now lent.entry.pool.now found }
 {
     match found? {
         Found::On(c) => steps::look::check(s.terms, seen_in(s, c), lent, i, c),
@@ -97,15 +95,22 @@ fn onward(s: State, i: Cell, lent: Lent<'_>, found: Option<Found>) -> Option<Fou
     }
 }
 
-// The check of cell i, run to its end: four steps at the most. None where a word of it lies outside its memory.
+// The check of cell i, run to its end: four steps at the most. The state is borrowed: a copy for each step would cost more than the step.
 #[tactic(auto, unfolding(crate::specs::Quiet::looked_at))]
-pub fn looked_at(s: State, i: Cell, lent: Lent<'_>) -> Option<Found>
-    ensures { result ≡ looked_at s i lent.entry.links.now lent.entry.directory.now lent.entry.pool.now }
+fn looked(s: &State, i: Cell, lent: Lent<'_>) -> Option<Found>
+    ensures { result ≡ looked_at s.now i lent.entry.links.now lent.entry.directory.now lent.entry.pool.now }
 {
     let a = onward(s, i, lent, Some(Found::On(Check::Link)));
     let b = onward(s, i, lent, a);
     let c = onward(s, i, lent, b);
     onward(s, i, lent, c)
+}
+
+// The same; none where a word of the check lies outside its memory.
+pub fn looked_at(s: State, i: Cell, lent: Lent<'_>) -> Option<Found>
+    ensures { result ≡ looked_at s i lent.entry.links.now lent.entry.directory.now lent.entry.pool.now }
+{
+    looked(&s, i, lent)
 }
 
 fn quarter_of(n: Next) -> Option<Quarter>
@@ -117,8 +122,8 @@ fn quarter_of(n: Next) -> Option<Quarter>
     }
 }
 
-fn reading_as(s: State, i: Cell, readings: &[u32], found: Option<Found>) -> Option<Quarter>
-    ensures { result ≡ reading_as s i readings.now found }
+fn reading_as(s: &State, i: Cell, readings: &[u32], found: Option<Found>) -> Option<Quarter>
+    ensures { result ≡ reading_as s.now i readings.now found }
 {
     match found? {
         Found::On(_) => None,
@@ -132,6 +137,6 @@ fn reading_as(s: State, i: Cell, readings: &[u32], found: Option<Found>) -> Opti
 pub fn reading_at(s: State, i: Cell, lent: Lent<'_>) -> Option<Quarter>
     ensures { result ≡ reading_at s i (words lent.entry) }
 {
-    let found = looked_at(s, i, lent);
-    reading_as(s, i, lent.readings, found)
+    let found = looked(&s, i, lent);
+    reading_as(&s, i, lent.readings, found)
 }

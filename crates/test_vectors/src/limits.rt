@@ -24,5 +24,5 @@ pub const PAGE: usize = 4096;
 // The input's words.
 pub const INPUT: usize = 131072;
 
-// How many words of the input are read at the most: past its words, 65,536 bytes more show that it is too long.
-pub const READ: usize = INPUT + 8192;
+// It is read in pieces of so many words. One piece more than it has shows that it is too long.
+pub const PIECE: usize = 8192;

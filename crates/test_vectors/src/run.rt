@@ -2,7 +2,9 @@
 ghost use Rattle.std.specs.Prelude.{◌≡◌, ◌<◌, All, IfOk, OnErr};
 
 use super::fault::Fault;
-use super::limits::{CALL, CELL_WORDS, DIRECTORY_WORDS, HEAD, INPUT, LANE_WORDS, POOL_WORDS, READ};
+use super::limits::{
+    CALL, CELL_WORDS, DIRECTORY_WORDS, HEAD, INPUT, LANE_WORDS, PIECE, POOL_WORDS,
+};
 use super::memories;
 use super::memories::Fills;
 use super::nine::Nine;
@@ -126,30 +128,52 @@ fn all<C: Call, W: Write>(words: &[u64], cut: bool, out: &mut W) {
 }
 
 // Some bytes as words, as many as there is room for.
-fn words_of<'a>(bytes: &[[u8; 8]], words: &'a mut [u64]) -> &'a [u64] {
+fn words_of(bytes: &[[u8; 8]], words: &mut [u64]) {
     for (word, bytes) in words.iter_mut().zip(bytes) {
         *word = u64::from_le_bytes(*bytes);
     }
-    &words[..bytes.len().min(words.len())]
 }
 
-// What of the input there is room for.
-fn read<'a, R: Read>(from: &mut R, bytes: &'a mut [u8]) -> io::Result<&'a [u8]> {
-    let n = streams::read_full(from, bytes)?;
-    Ok(&bytes[..n])
+// What was read of an input.
+#[derive(Clone, Copy)]
+struct Taken {
+    words: usize,
+    // its last word is cut
+    cut: bool,
+    // there is more than there is room for
+    long: bool,
+}
+
+// The input's words, by a buffer of one piece: a buffer of the whole input would be twice the input.
+fn take<R: Read>(from: &mut R, words: &mut [u64]) -> io::Result<Taken> {
+    let mut piece = [[0u8; 8]; PIECE];
+    let mut taken: usize = 0;
+    for part in words.chunks_mut(PIECE) {
+        let n = streams::read_full(from, piece.as_flattened_mut())?;
+        // it never wraps: there are sixteen pieces
+        taken = taken.wrapping_add(n);
+        words_of(&piece[..(n / 8).min(PIECE)], part);
+        if n < 8 * PIECE {
+            break;
+        }
+    }
+    let long = taken == 8 * INPUT && streams::read_full(from, piece.as_flattened_mut())? > 0;
+    Ok(Taken {
+        words: taken / 8,
+        cut: taken % 8 != 0,
+        long,
+    })
 }
 
 // Reads vectors from standard input, makes each call, and writes what it gave back.
 pub fn run<C: Call, R: Input + Print>(rt: &R) -> io::Result<()> {
-    let mut bytes = [[0u8; 8]; READ];
     let mut words = [0u64; INPUT];
-    let input = read(&mut rt.reader(), bytes.as_flattened_mut())?;
-    if 8 * INPUT < input.len() {
+    let taken = take(&mut rt.reader(), &mut words)?;
+    if taken.long {
         return rt.write_all(b"input over 1048576 bytes\n");
     }
-    let (whole, left) = input.as_chunks::<8>();
     let mut out = Out::new(rt);
-    all::<C, _>(words_of(whole, &mut words), !left.is_empty(), &mut out);
+    all::<C, _>(&words[..taken.words.min(INPUT)], taken.cut, &mut out);
     out.flush();
     Ok(())
 }

@@ -67,6 +67,12 @@ pub fn answered<W: Write>(out: &mut W, s: &State, said: Result<Said, Refusal>) -
 
 // ---- a memory
 
+// A word that differs from the fill. Never in line: most words are the fill, and the loop over them is to be short.
+#[inline(never)]
+fn exception<W: Write>(out: &mut W, i: usize, w: u64) -> fmt::Result {
+    write!(out, " {i}:{w}")
+}
+
 // Its length, and each word that differs from its fill.
 pub fn memory<W: Write, T: Copy + Into<u64>>(
     out: &mut W,
@@ -79,7 +85,7 @@ pub fn memory<W: Write, T: Copy + Into<u64>>(
     for (i, w) in words.iter().enumerate() {
         let w: u64 = (*w).into();
         if w != fill {
-            write!(out, " {i}:{w}")?;
+            exception(out, i, w)?;
         }
     }
     out.write_str("\n")

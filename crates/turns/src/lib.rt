@@ -60,15 +60,9 @@ pub fn turn_of(z: Terms, top: u32, q: Process, l: Lane, seen: u32, lent: Lent<'_
     let o = l.op;
     match o {
         Op::Idle => None,
-        // one call for the three, so that it stands in line
-        Op::Read(i, c) | Op::Asked(i, c) | Op::Write(i, c) => {
-            let found = look::check(z, seen, lent, i, c);
-            match o {
-                Op::Read(_, _) => read_turn(z, i, found),
-                Op::Asked(_, _) => asked_turn(i, found),
-                _ => write::checked_turn(q, l, i, found),
-            }
-        }
+        Op::Read(i, c) => read_turn(z, i, look::check(z, seen, lent, i, c)),
+        Op::Asked(i, c) => asked_turn(i, look::check(z, seen, lent, i, c)),
+        Op::Write(i, c) => write::checked_turn(q, l, i, look::check(z, seen, lent, i, c)),
         Op::Reading(i) => Some(ends(steps::written_read(z, lent.readings, i))),
         Op::Store(i, v) => Some(makes(
             Change::Reading(numbers::index_of(z, i), v),

@@ -3,7 +3,7 @@ use Rattle.sheet.proofs.SheetLaws.{small, left_filled, sheet_refused, sheet_sche
 use Rattle.sheet.proofs.sheet.Goals as goal
 
 pub with_filled-requires-clause-fits : goal.with_filled-requires-clause-fits
-with_filled-requires-clause-fits c = small _ _ _ _ c.read.ensures c.in-Ok.is
+with_filled-requires-clause-fits c = let few = small _ _ _ _ c.read.ensures c.in-Ok.is in record { p_high = few.p_high; m_high = few.m_high }
 
 pub returns-in-Err : goal.returns-in-Err
 returns-in-Err c = search (sheet_refused)

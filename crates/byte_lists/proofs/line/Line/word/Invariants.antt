@@ -4,4 +4,4 @@ use Rattle.byte_lists.specs.Lines.{Grown}
 use Rattle.byte_lists.proofs.line.Line.word.Given as goal
 
 abbrev pub invariant-loop-b : goal.invariant-loop-b
-invariant-loop-b l = Grown l.initial.line l.line (take l.b-index l.w)
+invariant-loop-b l = Grown l.initial.self l.self (take l.b-index l.w)
