@@ -1,4 +1,4 @@
--- From the lanes that begin and step look at, one by one, to the state: the loop, the lane in use, and the call's outcome.
+-- From the lane that a begin or a step is made on to the state: the lane in use, what a refusal leaves, and the call's outcome.
 -- Assumes nothing.
 use Rattle.std.specs.Prelude.{Option, Ok, Err}
 use mathlib.Core.Path.{◌≡◌, refl, sym, ap, ◌∙◌}

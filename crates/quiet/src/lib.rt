@@ -106,7 +106,7 @@ fn looked(s: &State, i: Cell, lent: Lent<'_>) -> Option<Found>
     onward(s, i, lent, c)
 }
 
-// The same; none where a word of the check lies outside its memory.
+// As `looked`. None where a word of the check lies outside its memory.
 pub fn looked_at(s: State, i: Cell, lent: Lent<'_>) -> Option<Found>
     ensures { result ≡ looked_at s i lent.entry.links.now lent.entry.directory.now lent.entry.pool.now }
 {

@@ -24,5 +24,5 @@ pub const PAGE: usize = 4096;
 // The input's words.
 pub const INPUT: usize = 131072;
 
-// It is read in pieces of so many words. One piece more than it has shows that it is too long.
+// It is read in pieces of so many words. A piece past its words shows that it is too long.
 pub const PIECE: usize = 8192;

@@ -144,7 +144,7 @@ struct Taken {
     long: bool,
 }
 
-// The input's words, by a buffer of one piece: a buffer of the whole input would be twice the input.
+// The input's words, into room for all of them (INPUT), by a buffer of one piece: one of the whole input would be twice the input.
 fn take<R: Read>(from: &mut R, words: &mut [u64]) -> io::Result<Taken> {
     let mut piece = [[0u8; 8]; PIECE];
     let mut taken: usize = 0;

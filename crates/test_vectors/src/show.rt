@@ -67,10 +67,32 @@ pub fn answered<W: Write>(out: &mut W, s: &State, said: Result<Said, Refusal>) -
 
 // ---- a memory
 
-// A word that differs from the fill. Never in line: most words are the fill, and the loop over them is to be short.
-#[inline(never)]
-fn exception<W: Write>(out: &mut W, i: usize, w: u64) -> fmt::Result {
-    write!(out, " {i}:{w}")
+// Words that are looked at together: most are the fill.
+const PART: usize = 64;
+
+fn differs<T: Copy + Into<u64>>(part: &[T], fill: u64) -> bool {
+    let mut bits: u64 = 0;
+    for w in part {
+        let w: u64 = (*w).into();
+        bits |= w ^ fill;
+    }
+    bits != 0
+}
+
+// Each word of a part that differs from the fill, from word `at` on.
+fn exceptions<W: Write, T: Copy + Into<u64>>(
+    out: &mut W,
+    at: usize,
+    part: &[T],
+    fill: u64,
+) -> fmt::Result {
+    for (i, w) in part.iter().enumerate() {
+        let w: u64 = (*w).into();
+        if w != fill {
+            write!(out, " {}:{w}", at.wrapping_add(i))?;
+        }
+    }
+    Ok(())
 }
 
 // Its length, and each word that differs from its fill.
@@ -82,11 +104,13 @@ pub fn memory<W: Write, T: Copy + Into<u64>>(
 ) -> fmt::Result {
     let fill: u64 = fill.into();
     write!(out, "{name} {}", words.len())?;
-    for (i, w) in words.iter().enumerate() {
-        let w: u64 = (*w).into();
-        if w != fill {
-            exception(out, i, w)?;
+    // An index of a slice never wraps.
+    let mut at: usize = 0;
+    for part in words.chunks(PART) {
+        if differs(part, fill) {
+            exceptions(out, at, part, fill)?;
         }
+        at = at.wrapping_add(PART);
     }
     out.write_str("\n")
 }
